@@ -1,0 +1,4 @@
+pub mod Refusals
+pub mod Contents
+pub mod Limits
+pub mod Ceilings
