@@ -12,9 +12,12 @@ pub record Contents : Type 0 where
   pub rows : List Row
   pub uses : List Use
 
--- what stands for the row of a task that is not there
+-- what stands for a row or a use that is not there
 abbrev pub no-row : Row
 no-row = record { period = 0; budget = 0 }
+
+abbrev pub no-use : Use
+no-use = record { task = 0; object = 0; mode = 0 }
 
 -- the most ticks that one instance of the task may run
 abbrev pub budget-of : Contents → ℕ → ℕ

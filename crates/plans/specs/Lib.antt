@@ -1,4 +1,7 @@
 pub mod Refusals
+pub mod Tables
 pub mod Contents
 pub mod Limits
+pub mod Reading
+pub mod Written
 pub mod Ceilings

@@ -1,5 +1,6 @@
 // Plans: what is locked by whom, read from bytes, with its ceilings and bounds. Rules are in `rules`.
 mod parts;
+mod reader;
 mod refusal;
 mod table;
 

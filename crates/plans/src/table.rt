@@ -2,7 +2,9 @@
 ghost use mathlib.Core.Path.{_≡_};
 ghost use Prim.Native.Nat.{_≤_};
 ghost use lib.ListN.{length};
+mod methods;
 
+// What a table holds are the first `len` of its slots.
 #[derive(Drop)]
 pub struct Table<T, const N: usize> {
     slots: [T; N],

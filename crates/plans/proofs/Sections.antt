@@ -1,0 +1,18 @@
+-- One element more of a section, or a fault in it. Assumes nothing.
+use mathlib.Core.Path.{_≡_, ap, _∙_}
+use mathlib.Core.List.{List, [], _∷_, _++_}
+use native.Mathlib.Omega.{arith}
+use Prim.Native.Nat.{ℕ, suc, _+_, _-_, _<_}
+use Rattle.std.specs.declared.result.Result.the-variants.{Ok, Err}
+use Rattle.plans.specs.Reading.{Read, and-then, read-some}
+use Rattle.plans.specs.declared.refusal.Refusal.{Refusal}
+
+module _ {A : Type 0} (one : List A → List ℕ → Read A) (count done : ℕ) (before : List A) (bytes : List ℕ) (left : done < count) where
+  next : count - done ≡ suc (count - (done + 1))
+  next = omega arith
+
+  pub section-more : (x : A) (rest : List ℕ) → one before bytes ≡ Ok (x, rest) → read-some one (count - done) before bytes ≡ read-some one (count - (done + 1)) (before ++ (x ∷ [])) rest
+  section-more x rest e = rw (next, e)
+
+  pub section-fault : (why : Refusal) → one before bytes ≡ Err why → read-some one (count - done) before bytes ≡ Err why
+  section-fault why e = rw (next, e)

@@ -1,0 +1,9 @@
+-- What a table holds. Assumes nothing.
+use mathlib.Core.List.{List}
+use Prim.Native.Nat.{ℕ}
+use lib.ListN.{take}
+use Rattle.plans.specs.declared.table.Table.{Table}
+
+-- the elements in use, in order
+abbrev pub items : {T : Type 0} {N : ℕ} → Table T N → List T
+items t = take (t .len) (t .slots)

@@ -1,0 +1,165 @@
+// Reading a plan from bytes. docs/PLAN.md has the format.
+ghost use mathlib.Core.List.{List, []};
+ghost use mathlib.Core.Path.{_≡_};
+ghost use Prim.Native.Nat.{ℕ, _≤_};
+ghost use Rattle.std.specs.Results.{Cases};
+ghost use Rattle.std.specs.declared.result.Result.the-variants.{Ok, Err};
+ghost use Rattle.plans.specs.Reading.{Read, read-value, read-object, read-row, read-use, read-some, last-row, is-bad, is-there, same-use, stands-in};
+ghost use Rattle.plans.specs.Tables.{items};
+use crate::parts::Object;
+use crate::parts::Row;
+use crate::parts::Use;
+use crate::refusal::Refusal;
+use crate::table::Table;
+
+// How one element of a section is read, after those before it.
+trait Section {
+    type Item: Copy;
+
+    ghost reads: { Self → List Self·Item → List ℕ → Read Self·Item };
+
+    // The element and the bytes after it, or the first fault.
+    fn read<'a>(&self, before: &[Self::Item], bytes: &'a [u8]) -> Result<(Self::Item, &'a [u8]), Refusal>
+        ensures { λ r. ⌜ Cases r (λ p. reads (now (self .entry)) (now (before .entry)) (now (bytes .entry)) ≡ Ok (p .0, now (p .1))) (λ why. reads (now (self .entry)) (now (before .entry)) (now (bytes .entry)) ≡ Err why) ⌝ };
+}
+
+fn read_value(bytes: &[u8]) -> Result<(i32, &[u8]), Refusal>
+    ensures { λ r. ⌜ Cases r (λ p. read-value (now (bytes .entry)) ≡ Ok (p .0, now (p .1))) (λ why. read-value (now (bytes .entry)) ≡ Err why) ⌝ }
+{
+    let [a, b, c, d, rest @ ..] = bytes else {
+        return Err(Refusal::PlanEnds);
+    };
+    Ok((i32::from_be_bytes([*a, *b, *c, *d]), rest))
+}
+
+struct Objects;
+
+impl Section for Objects as ObjectSection {
+    type Item = Object;
+
+    ghost reads = { λ _ _. read-object };
+
+    fn read<'a>(&self, _before: &[Object], bytes: &'a [u8]) -> Result<(Object, &'a [u8]), Refusal> {
+        let (first, rest) = read_value(bytes)?;
+        let (second, rest) = read_value(rest)?;
+        let (third, rest) = read_value(rest)?;
+        let (fourth, rest) = read_value(rest)?;
+        Ok((
+            Object {
+                start: [first, second, third, fourth],
+            },
+            rest,
+        ))
+    }
+}
+
+struct Rows;
+
+fn is_bad(row: Row) -> bool
+    ensures { λ r. ⌜ r ≡ is-bad row ⌝ }
+{
+    row.period == 0 || row.budget == 0 || row.period < row.budget
+}
+
+// The period that the next row may not fall below: 0 before the first row.
+fn last_period(rows: &[Row]) -> u16
+    ensures { λ r. ⌜ r ≡ last-row (now (rows .entry)) .period ⌝ }
+{
+    match rows.last() {
+        Some(row) => row.period,
+        None => 0,
+    }
+}
+
+impl Section for Rows as RowSection {
+    type Item = Row;
+
+    ghost reads = { λ _. read-row };
+
+    fn read<'a>(&self, before: &[Row], bytes: &'a [u8]) -> Result<(Row, &'a [u8]), Refusal> {
+        let [a, b, c, d, rest @ ..] = bytes else {
+            return Err(Refusal::PlanEnds);
+        };
+        let period = u16::from_be_bytes([*a, *b]);
+        let budget = u16::from_be_bytes([*c, *d]);
+        let row = Row { period, budget };
+        if is_bad(row) {
+            return Err(Refusal::BadRow);
+        }
+        if row.period < last_period(before) {
+            return Err(Refusal::PeriodFalls);
+        }
+        Ok((row, rest))
+    }
+}
+
+// How many tasks, objects and modes a use may name.
+struct Uses {
+    tasks: usize,
+    objects: usize,
+    modes: u8,
+}
+
+impl Uses {
+    fn has(&self, u: Use) -> bool
+        ensures { λ r. ⌜ r ≡ is-there (now (self .entry) .tasks) (now (self .entry) .objects) (now (self .entry) .modes) u ⌝ }
+    {
+        (u.task as usize) < self.tasks && (u.object as usize) < self.objects && u.mode < self.modes
+    }
+}
+
+fn is_same(u: Use, v: Use) -> bool
+    ensures { λ r. ⌜ r ≡ same-use u v ⌝ }
+{
+    u.task == v.task && u.object == v.object && u.mode == v.mode
+}
+
+fn contains(uses: &[Use], wanted: Use) -> bool
+    ensures { λ r. ⌜ r ≡ stands-in wanted (now (uses .entry)) ⌝ }
+{
+    for u in uses {
+        if is_same(*u, wanted) {
+            return true;
+        }
+    }
+    false
+}
+
+impl Section for Uses as UseSection {
+    type Item = Use;
+
+    ghost reads = { λ s. read-use (s .tasks) (s .objects) (s .modes) };
+
+    fn read<'a>(&self, before: &[Use], bytes: &'a [u8]) -> Result<(Use, &'a [u8]), Refusal> {
+        let [task, object, mode, rest @ ..] = bytes else {
+            return Err(Refusal::PlanEnds);
+        };
+        let found = Use {
+            task: *task,
+            object: *object,
+            mode: *mode,
+        };
+        if !self.has(found) {
+            return Err(Refusal::UseNotThere);
+        }
+        if contains(before, found) {
+            return Err(Refusal::UseAgain);
+        }
+        Ok((found, rest))
+    }
+}
+
+// So many elements of a section.
+fn read_some<'a, S: Section, const N: usize>(section: &S, count: usize, blank: S::Item, bytes: &'a [u8]) -> Result<(Table<S::Item, N>, &'a [u8]), Refusal>
+    requires { ⌜ count ≤ N ⌝ }
+    ensures { λ r. ⌜ Cases r (λ p. read-some (S·Section .reads (now (section .entry))) count [] (now (bytes .entry)) ≡ Ok (items (p .0), now (p .1))) (λ why. read-some (S·Section .reads (now (section .entry))) count [] (now (bytes .entry)) ≡ Err why) ⌝ }
+{
+    let mut table = Table::empty(blank);
+    let mut rest = bytes;
+    for done in 0..count {
+        let (item, after) = section.read(table.as_slice(), rest)?;
+        table.push(item);
+        rest = after;
+    }
+    Ok((table, rest))
+}
