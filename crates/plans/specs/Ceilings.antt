@@ -1,9 +1,12 @@
--- Ceilings and bounds. Assumes nothing.
+-- Ceilings and bounds, the laws that they keep, and the reasons given for them. docs/RULES.md has them in words. Assumes nothing.
 use mathlib.Core.Path.{_≡_}
 use mathlib.Core.Bool.{Bool, true, false, _&&_, cond}
 use mathlib.Core.List.{List, [], _∷_}
-use Prim.Native.Nat.{ℕ, min, max}
+use Prim.Native.Nat.{ℕ, min, max, _≤_}
 use lib.Dec.{eqb, ltb, leb}
+use Rattle.std.specs.declared.option.Option.{Option}
+use Rattle.std.specs.declared.option.Option.the-variants.{Some, None}
+use Rattle.std.specs.shelf.Lists.{Has}
 use Rattle.rules.specs.Meaning.{Meaning}
 use Rattle.plans.specs.Contents.{Contents, budget-of}
 use Rattle.plans.specs.declared.parts.Use.{Use}
@@ -28,3 +31,40 @@ bound-over m plan task (u ∷ us) = let rest = bound-over m plan task us in cond
 
 abbrev pub bound : Meaning → Contents → ℕ → ℕ
 bound m plan task = bound-over m plan task (plan .uses)
+
+-- the first use that passes
+abbrev pub first : (Use → Bool) → List Use → Option Use
+first p [] = None
+first p (u ∷ us) = let rest = first p us in cond (p u) (Some u) rest
+
+-- the reason for a ceiling: the first use that is excluded and has the ceiling's task
+abbrev pub attains : Meaning → List Use → ℕ → ℕ → Use → Bool
+attains m uses object held u = excluded m object held u && eqb (u .task) (ceiling m uses object held)
+
+abbrev pub ceiling-reason : Meaning → List Use → ℕ → ℕ → Option Use
+ceiling-reason m uses object held = first (attains m uses object held) uses
+
+-- the reason for a bound: the first use that delays the task and whose own task has the bound for its budget
+abbrev pub costs : Meaning → Contents → ℕ → Use → Bool
+costs m plan task u = delays m (plan .uses) task u && eqb (budget-of plan (u .task)) (bound m plan task)
+
+abbrev pub bound-reason : Meaning → Contents → ℕ → Option Use
+bound-reason m plan task = first (costs m plan task) (plan .uses)
+
+-- the law of a ceiling c and of the use that is given as its reason, for an object held in a mode
+pub record CeilingLaw (m : Meaning) (uses : List Use) (object held c : ℕ) (reason : Option Use) : Type 0 where
+  -- no excluded use has a smaller task
+  pub least : (u : Use) → Has uses u → excluded m object held u ≡ true → c ≤ u .task
+  -- the reason is an excluded use of the plan, and its task is the ceiling
+  pub attained : (u : Use) → reason ≡ Some u → Has uses u × (excluded m object held u ≡ true) × (u .task ≡ c)
+  -- without a reason no use is excluded, and the ceiling is 16
+  pub free : reason ≡ None → ((u : Use) → Has uses u → excluded m object held u ≡ false) × (c ≡ 16)
+
+-- the law of a bound b and of the use that is given as its reason
+pub record BoundLaw (m : Meaning) (plan : Contents) (task b : ℕ) (reason : Option Use) : Type 0 where
+  -- no use that delays the task belongs to a task with a greater budget
+  pub greatest : (u : Use) → Has (plan .uses) u → delays m (plan .uses) task u ≡ true → budget-of plan (u .task) ≤ b
+  -- the reason is a use of the plan that delays the task, and the budget of its task is the bound
+  pub attained : (u : Use) → reason ≡ Some u → Has (plan .uses) u × (delays m (plan .uses) task u ≡ true) × (budget-of plan (u .task) ≡ b)
+  -- without a reason no use delays the task, and the bound is 0
+  pub free : reason ≡ None → ((u : Use) → Has (plan .uses) u → delays m (plan .uses) task u ≡ false) × (b ≡ 0)

@@ -4,13 +4,19 @@ ghost use mathlib.Core.Path.{_≡_};
 ghost use Prim.Native.Nat.{ℕ, _≤_};
 ghost use Rattle.std.specs.Results.{Cases};
 ghost use Rattle.std.specs.declared.result.Result.the-variants.{Ok, Err};
-ghost use Rattle.plans.specs.Reading.{Read, read-value, read-object, read-row, read-use, read-some, last-row, is-bad, is-there, same-use, stands-in};
+ghost use Rattle.plans.specs.Reading.{Read, read-value, read-object, read-row, read-use, read-some, read-objects, read-rows, read-uses, read-plan, read-whole, last-row, is-bad, is-there, same-use, stands-in};
+ghost use Rattle.plans.specs.Plans.{contents};
 ghost use Rattle.plans.specs.Tables.{items};
 use crate::parts::Object;
 use crate::parts::Row;
 use crate::parts::Use;
+use crate::plan::MOST_OBJECTS;
+use crate::plan::MOST_TASKS;
+use crate::plan::MOST_USES;
+use crate::plan::Plan;
 use crate::refusal::Refusal;
 use crate::table::Table;
+use rules::LockRule;
 
 // How one element of a section is read, after those before it.
 trait Section {
@@ -32,6 +38,7 @@ fn read_value(bytes: &[u8]) -> Result<(i32, &[u8]), Refusal>
     Ok((i32::from_be_bytes([*a, *b, *c, *d]), rest))
 }
 
+#[derive(Drop)]
 struct Objects;
 
 impl Section for Objects as ObjectSection {
@@ -53,6 +60,7 @@ impl Section for Objects as ObjectSection {
     }
 }
 
+#[derive(Drop)]
 struct Rows;
 
 fn is_bad(row: Row) -> bool
@@ -94,6 +102,7 @@ impl Section for Rows as RowSection {
 }
 
 // How many tasks, objects and modes a use may name.
+#[derive(Drop)]
 struct Uses {
     tasks: usize,
     objects: usize,
@@ -162,4 +171,72 @@ fn read_some<'a, S: Section, const N: usize>(section: &S, count: usize, blank: S
         rest = after;
     }
     Ok((table, rest))
+}
+
+fn read_objects(bytes: &[u8]) -> Result<(Table<Object, MOST_OBJECTS>, &[u8]), Refusal>
+    ensures { λ r. ⌜ Cases r (λ p. read-objects (now (bytes .entry)) ≡ Ok (items (p .0), now (p .1))) (λ why. read-objects (now (bytes .entry)) ≡ Err why) ⌝ }
+{
+    let [count, rest @ ..] = bytes else {
+        return Err(Refusal::PlanEnds);
+    };
+    let count = *count as usize;
+    if count < 1 || MOST_OBJECTS < count {
+        return Err(Refusal::CountOutOfLimits);
+    }
+    read_some(&Objects, count, Object { start: [0; 4] }, rest)
+}
+
+fn read_rows(bytes: &[u8]) -> Result<(Table<Row, MOST_TASKS>, &[u8]), Refusal>
+    ensures { λ r. ⌜ Cases r (λ p. read-rows (now (bytes .entry)) ≡ Ok (items (p .0), now (p .1))) (λ why. read-rows (now (bytes .entry)) ≡ Err why) ⌝ }
+{
+    let [count, rest @ ..] = bytes else {
+        return Err(Refusal::PlanEnds);
+    };
+    let count = *count as usize;
+    if count < 1 || MOST_TASKS < count {
+        return Err(Refusal::CountOutOfLimits);
+    }
+    read_some(&Rows, count, Row { period: 0, budget: 0 }, rest)
+}
+
+fn read_uses<'a>(section: &Uses, bytes: &'a [u8]) -> Result<(Table<Use, MOST_USES>, &'a [u8]), Refusal>
+    ensures { λ r. ⌜ Cases r (λ p. read-uses (now (section .entry) .tasks) (now (section .entry) .objects) (now (section .entry) .modes) (now (bytes .entry)) ≡ Ok (items (p .0), now (p .1))) (λ why. read-uses (now (section .entry) .tasks) (now (section .entry) .objects) (now (section .entry) .modes) (now (bytes .entry)) ≡ Err why) ⌝ }
+{
+    let [high, low, rest @ ..] = bytes else {
+        return Err(Refusal::PlanEnds);
+    };
+    let count = u16::from_be_bytes([*high, *low]) as usize;
+    if MOST_USES < count {
+        return Err(Refusal::CountOutOfLimits);
+    }
+    read_some(section, count, Use { task: 0, object: 0, mode: 0 }, rest)
+}
+
+impl Plan {
+    // The plan at the front of the input, and the input after it.
+    pub fn read<'a, R: LockRule>(rule: &R, input: &'a [u8]) -> Result<(Plan, &'a [u8]), Refusal>
+        ensures { λ r. ⌜ Cases r (λ p. read-plan (meaning (now (rule .entry))) (now (input .entry)) ≡ Ok (contents (p .0), now (p .1))) (λ why. read-plan (meaning (now (rule .entry))) (now (input .entry)) ≡ Err why) ⌝ }
+    {
+        let (objects, rest) = read_objects(input)?;
+        let (rows, rest) = read_rows(rest)?;
+        let section = Uses {
+            tasks: rows.as_slice().len(),
+            objects: objects.as_slice().len(),
+            modes: rule.modes(),
+        };
+        let (uses, rest) = read_uses(&section, rest)?;
+        Ok((Plan::new(objects, rows, uses), rest))
+    }
+
+    // The plan, where it is all of the input.
+    pub fn read_whole<R: LockRule>(rule: &R, input: &[u8]) -> Result<Plan, Refusal>
+        ensures { λ r. ⌜ Cases r (λ p. read-whole (meaning (now (rule .entry))) (now (input .entry)) ≡ Ok (contents p)) (λ why. read-whole (meaning (now (rule .entry))) (now (input .entry)) ≡ Err why) ⌝ }
+    {
+        let (plan, rest) = Plan::read(rule, input)?;
+        if rest.is_empty() {
+            Ok(plan)
+        } else {
+            Err(Refusal::BytesAfterPlan)
+        }
+    }
 }

@@ -24,8 +24,8 @@ pub loop-done-again : need.loop-done-again
 loop-done-again g c =
     let before = items (c .loop-done .table) in
     let one = g .S·Section .reads (c .args .section .now) in
-    let room : length before < g .N = omega (arith, c .loop-done .inv .0, c .pre) in
-    let pushed : items (c .push .last .self) ≡ before ++ (c .in-Continue-item .item ∷ []) = rw (c .push .ensures .room, lt-ltb _ _ room) at (c .push .ensures .items) in
+    let free : length before < g .N = omega (arith, c .loop-done .inv .0, c .pre) in
+    let pushed : items (c .push .last .self) ≡ before ++ (c .in-Continue-item .item ∷ []) = rw (c .push .ensures .taken, lt-ltb _ _ free) at (c .push .ensures .items) in
     let found = rw (c .as-slice .ensures) at (c .in-Continue-item .ensures tt) in
     let next = section-more one (c .args .count) (c .loop-done .done) before (c .loop-done .rest .now) (c .loop-done-test .taken) _ _ found in
-    (rw (pushed) (length-push before _ ∙ ap (λ n. n + 1) (c .loop-done .inv .0)), rw pushed (sym next ∙ c .loop-done .inv .1))
+    (rw pushed (length-push before _ ∙ ap (λ n. n + 1) (c .loop-done .inv .0)), rw pushed (sym next ∙ c .loop-done .inv .1), c .push .ensures .room)

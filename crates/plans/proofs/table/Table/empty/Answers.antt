@@ -1,7 +1,7 @@
--- The slots are as many as were asked for, and none is in use.
-use native.Mathlib.Omega.{arith}
+-- The slots are as many as were asked for.
+use mathlib.Core.Path.{refl}
 use lib.ListN.{length-replicate}
 use Rattle.plans.proofs.table.Table.empty.Needs as need
 
-pub ghost-result : need.ghost-result
-ghost-result g c = (omega arith, (length-replicate (g .N) (c .args .blank), tt))
+pub returns : need.returns
+returns g c = record { items = refl; room = length-replicate (g .N) (c .args .blank) }
