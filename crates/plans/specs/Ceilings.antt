@@ -37,19 +37,21 @@ abbrev pub first : (Use → Bool) → List Use → Option Use
 first p [] = None
 first p (u ∷ us) = let rest = first p us in cond (p u) (Some u) rest
 
--- the reason for a ceiling: the first use that is excluded and has the ceiling's task
-abbrev pub attains : Meaning → List Use → ℕ → ℕ → Use → Bool
-attains m uses object held u = excluded m object held u && eqb (u .task) (ceiling m uses object held)
+-- the use is excluded, and its task is this one
+abbrev pub attains : Meaning → ℕ → ℕ → ℕ → Use → Bool
+attains m object held c u = excluded m object held u && eqb (u .task) c
 
+-- the reason for a ceiling: the first use that attains it
 abbrev pub ceiling-reason : Meaning → List Use → ℕ → ℕ → Option Use
-ceiling-reason m uses object held = first (attains m uses object held) uses
+ceiling-reason m uses object held = first (attains m object held (ceiling m uses object held)) uses
 
--- the reason for a bound: the first use that delays the task and whose own task has the bound for its budget
-abbrev pub costs : Meaning → Contents → ℕ → Use → Bool
-costs m plan task u = delays m (plan .uses) task u && eqb (budget-of plan (u .task)) (bound m plan task)
+-- the use delays the task, and the budget of its own task is this one
+abbrev pub costs : Meaning → Contents → ℕ → ℕ → Use → Bool
+costs m plan task b u = delays m (plan .uses) task u && eqb (budget-of plan (u .task)) b
 
+-- the reason for a bound: the first use that costs it
 abbrev pub bound-reason : Meaning → Contents → ℕ → Option Use
-bound-reason m plan task = first (costs m plan task) (plan .uses)
+bound-reason m plan task = first (costs m plan task (bound m plan task)) (plan .uses)
 
 -- the law of a ceiling c and of the use that is given as its reason, for an object held in a mode
 pub record CeilingLaw (m : Meaning) (uses : List Use) (object held c : ℕ) (reason : Option Use) : Type 0 where
@@ -57,8 +59,8 @@ pub record CeilingLaw (m : Meaning) (uses : List Use) (object held c : ℕ) (rea
   pub least : (u : Use) → Has uses u → excluded m object held u ≡ true → c ≤ u .task
   -- the reason is an excluded use of the plan, and its task is the ceiling
   pub attained : (u : Use) → reason ≡ Some u → Has uses u × (excluded m object held u ≡ true) × (u .task ≡ c)
-  -- without a reason no use is excluded, and the ceiling is 16
-  pub free : reason ≡ None → ((u : Use) → Has uses u → excluded m object held u ≡ false) × (c ≡ 16)
+  -- without a reason the ceiling is 16: no task has an excluded use, since tasks are below 16
+  pub free : reason ≡ None → c ≡ 16
 
 -- the law of a bound b and of the use that is given as its reason
 pub record BoundLaw (m : Meaning) (plan : Contents) (task b : ℕ) (reason : Option Use) : Type 0 where
@@ -66,5 +68,5 @@ pub record BoundLaw (m : Meaning) (plan : Contents) (task b : ℕ) (reason : Opt
   pub greatest : (u : Use) → Has (plan .uses) u → delays m (plan .uses) task u ≡ true → budget-of plan (u .task) ≤ b
   -- the reason is a use of the plan that delays the task, and the budget of its task is the bound
   pub attained : (u : Use) → reason ≡ Some u → Has (plan .uses) u × (delays m (plan .uses) task u ≡ true) × (budget-of plan (u .task) ≡ b)
-  -- without a reason no use delays the task, and the bound is 0
-  pub free : reason ≡ None → ((u : Use) → Has (plan .uses) u → delays m (plan .uses) task u ≡ false) × (b ≡ 0)
+  -- without a reason the bound is 0
+  pub free : reason ≡ None → b ≡ 0

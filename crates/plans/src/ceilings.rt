@@ -2,9 +2,8 @@
 ghost use mathlib.Core.Path.{_≡_};
 ghost use Rattle.std.specs.Vec.{made};
 ghost use Rattle.plans.specs.Answers.{ceiling-answer, bound-answer};
-ghost use Rattle.plans.specs.Contents.{budget-of};
 ghost use Rattle.plans.specs.Plans.{contents};
-ghost use Rattle.plans.specs.Ceilings.{excluded, ceiling, ceiling-reason, delays, bound, bound-reason, CeilingLaw, BoundLaw};
+ghost use Rattle.plans.specs.Ceilings.{excluded, ceiling, first, attains, delays, costs, bound-over, CeilingLaw, BoundLaw};
 use crate::parts::Use;
 use crate::plan::Plan;
 use crate::refusal::Refusal;
@@ -46,12 +45,24 @@ fn ceiling_of<R: LockRule>(rule: &R, uses: &[Use], object: usize, held: u8) -> u
     least
 }
 
-fn ceiling_reason<R: LockRule>(rule: &R, uses: &[Use], object: usize, held: u8) -> Option<Use>
-    ensures { λ r. ⌜ r ≡ ceiling-reason (meaning (now (rule .entry))) (now (uses .entry)) object held ⌝ }
+// Whether the use is a reason for the ceiling.
+fn attains<R: LockRule>(rule: &R, object: usize, held: u8, ceiling: u8, u: Use) -> bool
+    ensures { λ r. ⌜ r ≡ attains (meaning (now (rule .entry))) object held ceiling u ⌝ }
 {
-    let ceiling = ceiling_of(rule, uses, object, held);
+    is_excluded(rule, object, held, u) && u.task == ceiling
+}
+
+fn first_attaining<R: LockRule>(
+    rule: &R,
+    object: usize,
+    held: u8,
+    ceiling: u8,
+    uses: &[Use],
+) -> Option<Use>
+    ensures { λ r. ⌜ r ≡ first (attains (meaning (now (rule .entry))) object held ceiling) (now (uses .entry)) ⌝ }
+{
     for u in uses {
-        if is_excluded(rule, object, held, *u) && u.task == ceiling {
+        if attains(rule, object, held, ceiling, *u) {
             return Some(*u);
         }
     }
@@ -65,45 +76,51 @@ fn delays<R: LockRule>(rule: &R, uses: &[Use], task: usize, u: Use) -> bool
     task < u.task as usize && ceiling_of(rule, uses, u.object as usize, u.mode) as usize <= task
 }
 
+// The greatest budget behind these uses.
+fn bound_over<R: LockRule>(rule: &R, plan: &Plan, task: usize, uses: &[Use]) -> u16
+    ensures { λ r. ⌜ r ≡ bound-over (meaning (now (rule .entry))) (contents (now (plan .entry))) task (now (uses .entry)) ⌝ }
+{
+    let mut greatest: u16 = 0;
+    for u in uses {
+        if delays(rule, plan.uses(), task, *u) {
+            greatest = greatest.max(plan.budget(u.task as usize));
+        }
+    }
+    greatest
+}
+
+// Whether the use is a reason for the bound.
+fn costs<R: LockRule>(rule: &R, plan: &Plan, task: usize, bound: u16, u: Use) -> bool
+    ensures { λ r. ⌜ r ≡ costs (meaning (now (rule .entry))) (contents (now (plan .entry))) task bound u ⌝ }
+{
+    delays(rule, plan.uses(), task, u) && plan.budget(u.task as usize) == bound
+}
+
+fn first_cost<R: LockRule>(
+    rule: &R,
+    plan: &Plan,
+    task: usize,
+    bound: u16,
+    uses: &[Use],
+) -> Option<Use>
+    ensures { λ r. ⌜ r ≡ first (costs (meaning (now (rule .entry))) (contents (now (plan .entry))) task bound) (now (uses .entry)) ⌝ }
+{
+    for u in uses {
+        if costs(rule, plan, task, bound, *u) {
+            return Some(*u);
+        }
+    }
+    None
+}
+
 impl Plan {
-    // The budget of a task, and 0 where there is no such task.
-    pub fn budget(&self, task: usize) -> u16
-        ensures { λ r. ⌜ r ≡ budget-of (contents (now (self .entry))) task ⌝ }
-    {
-        match self.rows().get(task) {
-            Some(row) => row.budget,
-            None => 0,
-        }
-    }
-
-    fn bound_of<R: LockRule>(&self, rule: &R, task: usize) -> u16
-        ensures { λ r. ⌜ r ≡ bound (meaning (now (rule .entry))) (contents (now (self .entry))) task ⌝ }
-    {
-        let uses = self.uses();
-        let mut greatest = 0;
-        for u in uses {
-            if delays(rule, uses, task, *u) {
-                greatest = greatest.max(self.budget(u.task as usize));
-            }
-        }
-        greatest
-    }
-
-    fn bound_reason<R: LockRule>(&self, rule: &R, task: usize) -> Option<Use>
-        ensures { λ r. ⌜ r ≡ bound-reason (meaning (now (rule .entry))) (contents (now (self .entry))) task ⌝ }
-    {
-        let bound = self.bound_of(rule, task);
-        let uses = self.uses();
-        for u in uses {
-            if delays(rule, uses, task, *u) && self.budget(u.task as usize) == bound {
-                return Some(*u);
-            }
-        }
-        None
-    }
-
     // The ceiling of an object that is locked in a mode.
-    pub fn ceiling<R: LockRule>(&self, rule: &R, object: usize, mode: usize) -> Result<Ceiling, Refusal>
+    pub fn ceiling<R: LockRule>(
+        &self,
+        rule: &R,
+        object: usize,
+        mode: usize,
+    ) -> Result<Ceiling, Refusal>
         ensures answer { λ r. ⌜ r ≡ ceiling-answer (meaning (now (rule .entry))) (contents (now (self .entry))) object mode ⌝ }
         ensures law { λ r. ⌜ made r (λ c. CeilingLaw (meaning (now (rule .entry))) (contents (now (self .entry)) .uses) object mode (c .value) (c .reason)) ⌝ }
     {
@@ -111,9 +128,10 @@ impl Plan {
             return Err(Refusal::NumberNotThere);
         }
         let held = mode as u8;
+        let value = ceiling_of(rule, self.uses(), object, held);
         Ok(Ceiling {
-            value: ceiling_of(rule, self.uses(), object, held),
-            reason: ceiling_reason(rule, self.uses(), object, held),
+            value,
+            reason: first_attaining(rule, object, held, value, self.uses()),
         })
     }
 
@@ -125,9 +143,10 @@ impl Plan {
         if task >= self.rows().len() {
             return Err(Refusal::NumberNotThere);
         }
+        let value = bound_over(rule, self, task, self.uses());
         Ok(Bound {
-            value: self.bound_of(rule, task),
-            reason: self.bound_reason(rule, task),
+            value,
+            reason: first_cost(rule, self, task, value, self.uses()),
         })
     }
 }

@@ -1,7 +1,7 @@
 // A plan: the objects, the tasks, and who may lock what.
 ghost use mathlib.Core.Path.{_≡_};
+ghost use Rattle.plans.specs.Contents.{budget-of};
 ghost use Rattle.plans.specs.Plans.{contents};
-ghost use Rattle.plans.specs.Tables.{items};
 use crate::parts::Object;
 use crate::parts::Row;
 use crate::parts::Use;
@@ -17,18 +17,12 @@ pub const MOST_USES: usize = 512;
 // Rows are numbered from 0; a task with a smaller number is higher.
 #[derive(Drop)]
 pub struct Plan {
-    objects: Table<Object, MOST_OBJECTS>,
-    rows: Table<Row, MOST_TASKS>,
-    uses: Table<Use, MOST_USES>,
+    pub(crate) objects: Table<Object, MOST_OBJECTS>,
+    pub(crate) rows: Table<Row, MOST_TASKS>,
+    pub(crate) uses: Table<Use, MOST_USES>,
 }
 
 impl Plan {
-    pub(crate) fn new(objects: Table<Object, MOST_OBJECTS>, rows: Table<Row, MOST_TASKS>, uses: Table<Use, MOST_USES>) -> Self
-        ensures { λ r. ⌜ contents r ≡ record { objects = items objects; rows = items rows; uses = items uses } ⌝ }
-    {
-        Plan { objects, rows, uses }
-    }
-
     pub fn objects(&self) -> &[Object]
         ensures { λ r. ⌜ now r ≡ contents (now (self .entry)) .objects ⌝ }
     {
@@ -45,5 +39,15 @@ impl Plan {
         ensures { λ r. ⌜ now r ≡ contents (now (self .entry)) .uses ⌝ }
     {
         self.uses.as_slice()
+    }
+
+    // The budget of a task, and 0 where there is no such task.
+    pub fn budget(&self, task: usize) -> u16
+        ensures { λ r. ⌜ r ≡ budget-of (contents (now (self .entry))) task ⌝ }
+    {
+        match self.rows().get(task) {
+            Some(row) => row.budget,
+            None => 0,
+        }
     }
 }

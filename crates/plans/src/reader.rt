@@ -7,6 +7,7 @@ ghost use Rattle.std.specs.declared.result.Result.the-variants.{Ok, Err};
 ghost use Rattle.plans.specs.Reading.{Read, read-value, read-object, read-row, read-use, read-some, read-objects, read-rows, read-uses, read-plan, read-whole, last-row, is-bad, is-there, same-use, stands-in};
 ghost use Rattle.plans.specs.Plans.{contents};
 ghost use Rattle.plans.specs.Tables.{items};
+ghost use Rattle.plans.specs.Written.{AcceptedExactly};
 use crate::parts::Object;
 use crate::parts::Row;
 use crate::parts::Use;
@@ -25,7 +26,11 @@ trait Section {
     ghost reads: { Self → List Self·Item → List ℕ → Read Self·Item };
 
     // The element and the bytes after it, or the first fault.
-    fn read<'a>(&self, before: &[Self::Item], bytes: &'a [u8]) -> Result<(Self::Item, &'a [u8]), Refusal>
+    fn read<'a>(
+        &self,
+        before: &[Self::Item],
+        bytes: &'a [u8],
+    ) -> Result<(Self::Item, &'a [u8]), Refusal>
         ensures { λ r. ⌜ Cases r (λ p. reads (now (self .entry)) (now (before .entry)) (now (bytes .entry)) ≡ Ok (p .0, now (p .1))) (λ why. reads (now (self .entry)) (now (before .entry)) (now (bytes .entry)) ≡ Err why) ⌝ };
 }
 
@@ -159,7 +164,12 @@ impl Section for Uses as UseSection {
 }
 
 // So many elements of a section.
-fn read_some<'a, S: Section, const N: usize>(section: &S, count: usize, blank: S::Item, bytes: &'a [u8]) -> Result<(Table<S::Item, N>, &'a [u8]), Refusal>
+fn read_some<'a, S: Section, const N: usize>(
+    section: &S,
+    count: usize,
+    blank: S::Item,
+    bytes: &'a [u8],
+) -> Result<(Table<S::Item, N>, &'a [u8]), Refusal>
     requires { ⌜ count ≤ N ⌝ }
     ensures { λ r. ⌜ Cases r (λ p. read-some (S·Section .reads (now (section .entry))) count [] (now (bytes .entry)) ≡ Ok (items (p .0), now (p .1))) (λ why. read-some (S·Section .reads (now (section .entry))) count [] (now (bytes .entry)) ≡ Err why) ⌝ }
 {
@@ -196,10 +206,21 @@ fn read_rows(bytes: &[u8]) -> Result<(Table<Row, MOST_TASKS>, &[u8]), Refusal>
     if count < 1 || MOST_TASKS < count {
         return Err(Refusal::CountOutOfLimits);
     }
-    read_some(&Rows, count, Row { period: 0, budget: 0 }, rest)
+    read_some(
+        &Rows,
+        count,
+        Row {
+            period: 0,
+            budget: 0,
+        },
+        rest,
+    )
 }
 
-fn read_uses<'a>(section: &Uses, bytes: &'a [u8]) -> Result<(Table<Use, MOST_USES>, &'a [u8]), Refusal>
+fn read_uses<'a>(
+    section: &Uses,
+    bytes: &'a [u8],
+) -> Result<(Table<Use, MOST_USES>, &'a [u8]), Refusal>
     ensures { λ r. ⌜ Cases r (λ p. read-uses (now (section .entry) .tasks) (now (section .entry) .objects) (now (section .entry) .modes) (now (bytes .entry)) ≡ Ok (items (p .0), now (p .1))) (λ why. read-uses (now (section .entry) .tasks) (now (section .entry) .objects) (now (section .entry) .modes) (now (bytes .entry)) ≡ Err why) ⌝ }
 {
     let [high, low, rest @ ..] = bytes else {
@@ -209,30 +230,54 @@ fn read_uses<'a>(section: &Uses, bytes: &'a [u8]) -> Result<(Table<Use, MOST_USE
     if MOST_USES < count {
         return Err(Refusal::CountOutOfLimits);
     }
-    read_some(section, count, Use { task: 0, object: 0, mode: 0 }, rest)
+    read_some(
+        section,
+        count,
+        Use {
+            task: 0,
+            object: 0,
+            mode: 0,
+        },
+        rest,
+    )
+}
+
+// The sections one after the other.
+fn read_sections<'a, R: LockRule>(rule: &R, input: &'a [u8]) -> Result<(Plan, &'a [u8]), Refusal>
+    ensures { λ r. ⌜ Cases r (λ p. read-plan (meaning (now (rule .entry))) (now (input .entry)) ≡ Ok (contents (p .0), now (p .1))) (λ why. read-plan (meaning (now (rule .entry))) (now (input .entry)) ≡ Err why) ⌝ }
+{
+    let (objects, rest) = read_objects(input)?;
+    let (rows, rest) = read_rows(rest)?;
+    let section = Uses {
+        tasks: rows.as_slice().len(),
+        objects: objects.as_slice().len(),
+        modes: rule.modes(),
+    };
+    let (uses, rest) = read_uses(&section, rest)?;
+    Ok((
+        Plan {
+            objects,
+            rows,
+            uses,
+        },
+        rest,
+    ))
 }
 
 impl Plan {
     // The plan at the front of the input, and the input after it.
     pub fn read<'a, R: LockRule>(rule: &R, input: &'a [u8]) -> Result<(Plan, &'a [u8]), Refusal>
-        ensures { λ r. ⌜ Cases r (λ p. read-plan (meaning (now (rule .entry))) (now (input .entry)) ≡ Ok (contents (p .0), now (p .1))) (λ why. read-plan (meaning (now (rule .entry))) (now (input .entry)) ≡ Err why) ⌝ }
+        ensures answer { λ r. ⌜ Cases r (λ p. read-plan (meaning (now (rule .entry))) (now (input .entry)) ≡ Ok (contents (p .0), now (p .1))) (λ why. read-plan (meaning (now (rule .entry))) (now (input .entry)) ≡ Err why) ⌝ }
+        ensures law { λ _. ⌜ AcceptedExactly (meaning (now (rule .entry))) (now (input .entry)) ⌝ }
     {
-        let (objects, rest) = read_objects(input)?;
-        let (rows, rest) = read_rows(rest)?;
-        let section = Uses {
-            tasks: rows.as_slice().len(),
-            objects: objects.as_slice().len(),
-            modes: rule.modes(),
-        };
-        let (uses, rest) = read_uses(&section, rest)?;
-        Ok((Plan::new(objects, rows, uses), rest))
+        read_sections(rule, input)
     }
 
     // The plan, where it is all of the input.
     pub fn read_whole<R: LockRule>(rule: &R, input: &[u8]) -> Result<Plan, Refusal>
         ensures { λ r. ⌜ Cases r (λ p. read-whole (meaning (now (rule .entry))) (now (input .entry)) ≡ Ok (contents p)) (λ why. read-whole (meaning (now (rule .entry))) (now (input .entry)) ≡ Err why) ⌝ }
     {
-        let (plan, rest) = Plan::read(rule, input)?;
+        let (plan, rest) = read_sections(rule, input)?;
         if rest.is_empty() {
             Ok(plan)
         } else {

@@ -19,7 +19,10 @@ impl<T: Copy, const N: usize> Table<T, N> {
         ensures items { λ r. ⌜ items r ≡ [] ⌝ }
         ensures room { λ r. ⌜ room r ≡ N ⌝ }
     {
-        Table { slots: [blank; N], len: 0 }
+        Table {
+            slots: [blank; N],
+            len: 0,
+        }
     }
 
     // One element more; false where there is no slot left.

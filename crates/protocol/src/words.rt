@@ -41,12 +41,31 @@ pub struct Image {
 // What may be asked of the manager.
 #[derive(Clone, Copy)]
 pub enum Call {
-    Arrive { task: u8 },
-    Lock { task: u8, object: u8, mode: u8 },
-    Read { task: u8, object: u8, part: u8 },
-    Write { task: u8, object: u8, part: u8, value: i32 },
-    Close { task: u8 },
-    Drop { task: u8 },
+    Arrive {
+        task: u8,
+    },
+    Lock {
+        task: u8,
+        object: u8,
+        mode: u8,
+    },
+    Read {
+        task: u8,
+        object: u8,
+        part: u8,
+    },
+    Write {
+        task: u8,
+        object: u8,
+        part: u8,
+        value: i32,
+    },
+    Close {
+        task: u8,
+    },
+    Drop {
+        task: u8,
+    },
     Tick,
 }
 
