@@ -6,6 +6,8 @@ mod reader;
 mod refusal;
 mod table;
 
+pub use ceilings::Bound;
+pub use ceilings::Ceiling;
 pub use parts::Object;
 pub use parts::Row;
 pub use parts::Use;
