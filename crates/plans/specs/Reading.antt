@@ -94,13 +94,15 @@ read-some one (suc n) before bytes = and-then (one before bytes) (λ x rest. rea
 abbrev pub counted : {A : Type 0} → ℕ → ℕ → ℕ → (ℕ → Read A) → Read A
 counted low high n section = cond (ltb n low || ltb high n) (Err CountOutOfLimits) (section n)
 
--- 1 to 32 objects, after a count of one byte
-abbrev pub read-objects : List ℕ → Read (List Object)
-read-objects bytes = taking 1 bytes (counted 1 32 (getD bytes 0 0) (λ n. read-some (λ _. read-object) n [] (drop 1 bytes)))
+-- 1 to so many elements, after a count of one byte
+abbrev pub read-short : {A : Type 0} → (List A → List ℕ → Read A) → ℕ → List ℕ → Read (List A)
+read-short one most bytes = taking 1 bytes (counted 1 most (getD bytes 0 0) (λ n. read-some one n [] (drop 1 bytes)))
 
--- 1 to 16 rows, after a count of one byte
+abbrev pub read-objects : List ℕ → Read (List Object)
+read-objects = read-short (λ _. read-object) 32
+
 abbrev pub read-rows : List ℕ → Read (List Row)
-read-rows bytes = taking 1 bytes (counted 1 16 (getD bytes 0 0) (λ n. read-some read-row n [] (drop 1 bytes)))
+read-rows = read-short read-row 16
 
 -- 0 to 512 uses, after a count of two bytes
 abbrev pub read-uses : ℕ → ℕ → ℕ → List ℕ → Read (List Use)

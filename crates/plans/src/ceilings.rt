@@ -73,7 +73,7 @@ fn first_attaining<R: LockRule>(
 fn delays<R: LockRule>(rule: &R, uses: &[Use], task: usize, u: Use) -> bool
     ensures { λ r. ⌜ r ≡ delays (meaning (now (rule .entry))) (now (uses .entry)) task u ⌝ }
 {
-    task < u.task as usize && ceiling_of(rule, uses, u.object as usize, u.mode) as usize <= task
+    task < u.task as usize && task >= ceiling_of(rule, uses, u.object as usize, u.mode) as usize
 }
 
 // The greatest budget behind these uses.

@@ -4,7 +4,7 @@ ghost use mathlib.Core.Path.{_≡_};
 ghost use Prim.Native.Nat.{ℕ, _≤_};
 ghost use Rattle.std.specs.Results.{Cases};
 ghost use Rattle.std.specs.declared.result.Result.the-variants.{Ok, Err};
-ghost use Rattle.plans.specs.Reading.{Read, read-value, read-object, read-row, read-use, read-some, read-objects, read-rows, read-uses, read-plan, read-whole, last-row, is-bad, is-there, same-use, stands-in};
+ghost use Rattle.plans.specs.Reading.{Read, read-value, read-object, read-row, read-use, read-some, read-short, read-objects, read-rows, read-uses, read-plan, read-whole, last-row, is-bad, is-there, same-use, stands-in};
 ghost use Rattle.plans.specs.Plans.{contents};
 ghost use Rattle.plans.specs.Tables.{items};
 ghost use Rattle.plans.specs.Written.{AcceptedExactly};
@@ -183,37 +183,40 @@ fn read_some<'a, S: Section, const N: usize>(
     Ok((table, rest))
 }
 
-fn read_objects(bytes: &[u8]) -> Result<(Table<Object, MOST_OBJECTS>, &[u8]), Refusal>
-    ensures { λ r. ⌜ Cases r (λ p. read-objects (now (bytes .entry)) ≡ Ok (items (p .0), now (p .1))) (λ why. read-objects (now (bytes .entry)) ≡ Err why) ⌝ }
+// A section of 1 to N elements, after a count of one byte.
+fn read_short<'a, S: Section, const N: usize>(
+    section: &S,
+    blank: S::Item,
+    bytes: &'a [u8],
+) -> Result<(Table<S::Item, N>, &'a [u8]), Refusal>
+    ensures { λ r. ⌜ Cases r (λ p. read-short (S·Section .reads (now (section .entry))) N (now (bytes .entry)) ≡ Ok (items (p .0), now (p .1))) (λ why. read-short (S·Section .reads (now (section .entry))) N (now (bytes .entry)) ≡ Err why) ⌝ }
 {
     let [count, rest @ ..] = bytes else {
         return Err(Refusal::PlanEnds);
     };
     let count = *count as usize;
-    if count < 1 || MOST_OBJECTS < count {
+    if count < 1 || N < count {
         return Err(Refusal::CountOutOfLimits);
     }
-    read_some(&Objects, count, Object { start: [0; 4] }, rest)
+    read_some(section, count, blank, rest)
+}
+
+fn read_objects(bytes: &[u8]) -> Result<(Table<Object, MOST_OBJECTS>, &[u8]), Refusal>
+    ensures { λ r. ⌜ Cases r (λ p. read-objects (now (bytes .entry)) ≡ Ok (items (p .0), now (p .1))) (λ why. read-objects (now (bytes .entry)) ≡ Err why) ⌝ }
+{
+    read_short(&Objects, Object { start: [0; 4] }, bytes)
 }
 
 fn read_rows(bytes: &[u8]) -> Result<(Table<Row, MOST_TASKS>, &[u8]), Refusal>
     ensures { λ r. ⌜ Cases r (λ p. read-rows (now (bytes .entry)) ≡ Ok (items (p .0), now (p .1))) (λ why. read-rows (now (bytes .entry)) ≡ Err why) ⌝ }
 {
-    let [count, rest @ ..] = bytes else {
-        return Err(Refusal::PlanEnds);
-    };
-    let count = *count as usize;
-    if count < 1 || MOST_TASKS < count {
-        return Err(Refusal::CountOutOfLimits);
-    }
-    read_some(
+    read_short(
         &Rows,
-        count,
         Row {
             period: 0,
             budget: 0,
         },
-        rest,
+        bytes,
     )
 }
 

@@ -15,7 +15,7 @@ pub(crate) struct Table<T, const N: usize> {
 
 impl<T: Copy, const N: usize> Table<T, N> {
     // Nothing in it, and room for N. The slots hold `blank` until they are used.
-    pub fn empty(blank: T) -> Self
+    pub(crate) fn empty(blank: T) -> Self
         ensures items { λ r. ⌜ items r ≡ [] ⌝ }
         ensures room { λ r. ⌜ room r ≡ N ⌝ }
     {
@@ -26,7 +26,7 @@ impl<T: Copy, const N: usize> Table<T, N> {
     }
 
     // One element more; false where there is no slot left.
-    pub fn push(&mut self, x: T) -> bool
+    pub(crate) fn push(&mut self, x: T) -> bool
         requires { ⌜ room (now self) ≡ N ⌝ }
         ensures taken { λ r. ⌜ r ≡ ltb (length (items (now (self .entry)))) N ⌝ }
         ensures items { λ r. ⌜ items (now (self .exit)) ≡ cond r (items (now (self .entry)) ++ (x ∷ [])) (items (now (self .entry))) ⌝ }
@@ -41,7 +41,7 @@ impl<T: Copy, const N: usize> Table<T, N> {
         true
     }
 
-    pub fn as_slice(&self) -> &[T]
+    pub(crate) fn as_slice(&self) -> &[T]
         ensures { λ r. ⌜ now r ≡ items (now (self .entry)) ⌝ }
     {
         let slots = &self.slots[..];

@@ -19,7 +19,7 @@ use Rattle.protocol.proofs.Moves.{ready-there}
 use Rattle.protocol.proofs.Bits.{word, word-bit, word-past, word-none, word-lowest}
 
 -- where some ready task has the place, there is one
-has-place-is : (tasks : List Task) (p k : ℕ) (ts : List Task) → has-place tasks p k ts ≡ true → (n : ℕ) × (standing-at ts n ≡ Ready) × (place tasks (k + n) ≡ p)
+pub has-place-is : (tasks : List Task) (p k : ℕ) (ts : List Task) → has-place tasks p k ts ≡ true → (n : ℕ) × (standing-at ts n ≡ Ready) × (place tasks (k + n) ≡ p)
 has-place-is tasks p k [] h = absurd (false≢true h)
 has-place-is tasks p k (t ∷ ts) h = elim (or-cases (is-ready (t .standing) && eqb (place tasks k) p) (has-place tasks p (suc k) ts) h) [
   | inl e ↦ (let (r, q) = and-parts (is-ready (t .standing)) (eqb (place tasks k) p) e in
@@ -31,7 +31,7 @@ has-place-is tasks p k (t ∷ ts) h = elim (or-cases (is-ready (t .standing) && 
 ]
 
 -- and a ready task's place is had
-place-had : (tasks : List Task) (p k : ℕ) (ts : List Task) (n : ℕ) → standing-at ts n ≡ Ready → place tasks (k + n) ≡ p → has-place tasks p k ts ≡ true
+pub place-had : (tasks : List Task) (p k : ℕ) (ts : List Task) (n : ℕ) → standing-at ts n ≡ Ready → place tasks (k + n) ≡ p → has-place tasks p k ts ≡ true
 place-had tasks p k [] n r q = absurd (rest-not-ready r)
 place-had tasks p k (t ∷ ts) zero r q = let here : k ≡ k + 0 = omega arith in or-left (is-ready (t .standing) && eqb (place tasks k) p) (has-place tasks p (suc k) ts) (and-from (is-ready (t .standing)) (eqb (place tasks k) p) (ap is-ready r) (eq-eqb (place tasks k) p (ap (place tasks) here ∙ q)))
 place-had tasks p k (t ∷ ts) (suc n) r q = let there : suc k + n ≡ k + suc n = omega arith in or-right (is-ready (t .standing) && eqb (place tasks k) p) (has-place tasks p (suc k) ts) (place-had tasks p (suc k) ts n r (ap (place tasks) there ∙ q))

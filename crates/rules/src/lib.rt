@@ -1,7 +1,9 @@
 // Lock rules: what a mode of a lock reads and writes, and which modes clash. Plans are in `plans`.
 ghost use mathlib.Core.Path.{_≡_};
-ghost use Rattle.rules.specs.Meaning.{Meaning, Lawful, exclusive};
-ghost use Rattle.rules.specs.Meaning.{read-write};
+ghost use Rattle.rules.specs.Meaning.{Meaning, Lawful, exclusive, read-write};
+
+// An object has the parts 0 to 3.
+pub const PARTS: u8 = 4;
 
 // A lock rule. Its meaning is fixed, and every question is answered from it.
 pub trait LockRule {
@@ -36,11 +38,12 @@ pub impl LockRule for Exclusive as ExclusiveRule {
     }
 
     fn reads(&self, mode: u8, part: u8) -> bool {
-        mode == 0 && part < 4
+        mode == 0 && part < PARTS
     }
 
+    // What it reads it also writes.
     fn writes(&self, mode: u8, part: u8) -> bool {
-        mode == 0 && part < 4
+        self.reads(mode, part)
     }
 
     fn clashes(&self, held: u8, wanted: u8) -> bool {
@@ -60,11 +63,11 @@ pub impl LockRule for ReadWrite as ReadWriteRule {
     }
 
     fn reads(&self, mode: u8, part: u8) -> bool {
-        mode < 2 && part < 4
+        mode < 2 && part < PARTS
     }
 
     fn writes(&self, mode: u8, part: u8) -> bool {
-        mode == 1 && part < 4
+        mode == 1 && part < PARTS
     }
 
     fn clashes(&self, held: u8, wanted: u8) -> bool {
