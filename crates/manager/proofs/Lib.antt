@@ -1,0 +1,6 @@
+mod ServedTasks
+mod Ticks
+mod Lists
+mod Users
+mod StartValues
+mod LineLaws

@@ -1,0 +1,4 @@
+pub mod Users
+pub mod Turns
+pub mod View
+pub mod Runs
