@@ -1,8 +1,10 @@
 -- Every line is computed.
 use mathlib.Core.Path.{refl}
+use Rattle.std.specs.Written.{digits}
 use Rattle.worked.proofs.worked_examples.Needs as need
 
 pub returns : need.returns
+unfolding digits
 returns c = record {
   heading-read = refl;
   heading-written = refl;
@@ -24,4 +26,12 @@ returns c = record {
   periods-equal = refl;
   period-falls = refl;
   objects-too-many = refl;
+  fusing-waits = refl;
+  served-after-wait = refl;
+  course-at-first = refl;
+  course-written = refl;
+  course-dropped = refl;
+  third-tick = refl;
+  bound-reached = refl;
+  tape-played = refl;
 }
