@@ -1,4 +1,6 @@
 // The face for C: functions on numbers and byte slices, a refusal as minus its number. include/ceiling_locks.h declares them.
+#![tactic(auto)]
+
 ghost use Rattle.std.specs.Prelude.{◌≡◌, length, Err};
 ghost use Rattle.player.specs.Numbered.{play_numbered, NumberedLaws};
 ghost use Rattle.ceiling_locks.specs.Numbers.{in_numbers, asked, under, check_under, ceiling_under, bound_under, PlaysInNumbers};
@@ -35,14 +37,14 @@ fn asked(n: i64) -> Result<usize, Refusal>
 }
 
 fn check_under<R: LockRule>(rule: &R, plan: &[u8]) -> Result<u32, Refusal>
-    ensures { result ≡ check_under plan.now (meaning rule.now) }
+    ensures { result ≡ check_under plan.now (R.meaning rule.now) }
 {
     let _ = Plan::read_whole(rule, plan)?;
     Ok(0)
 }
 
 fn ceiling_under<R: LockRule>(rule: &R, plan: &[u8], object: i64, mode: i64) -> Result<u32, Refusal>
-    ensures { result ≡ ceiling_under plan.now object mode (meaning rule.now) }
+    ensures { result ≡ ceiling_under plan.now object mode (R.meaning rule.now) }
 {
     let plan = Plan::read_whole(rule, plan)?;
     let object = asked(object)?;
@@ -52,7 +54,7 @@ fn ceiling_under<R: LockRule>(rule: &R, plan: &[u8], object: i64, mode: i64) -> 
 }
 
 fn bound_under<R: LockRule>(rule: &R, plan: &[u8], task: i64) -> Result<u32, Refusal>
-    ensures { result ≡ bound_under plan.now task (meaning rule.now) }
+    ensures { result ≡ bound_under plan.now task (R.meaning rule.now) }
 {
     let plan = Plan::read_whole(rule, plan)?;
     let task = asked(task)?;

@@ -10,7 +10,7 @@ use rules::LockRule;
 
 // Another task has the lock, and its ceiling is at most the caller's own number.
 fn blocks<R: LockRule>(rule: &R, chart: &Chart, task: u8, r: LockRecord) -> bool
-    ensures { result ≡ blocks_under (meaning rule.now) (contents chart.now.plan).uses task r }
+    ensures { result ≡ blocks_under (R.meaning rule.now) (contents chart.now.plan).uses task r }
 {
     r.task != task && chart.ceiling(rule, r.object, r.mode) <= task
 }
@@ -22,7 +22,7 @@ pub fn newest_blocker<R: LockRule>(
     locks: &[LockRecord],
     task: u8,
 ) -> Option<u8>
-    ensures { result ≡ newest_task (blocks_under (meaning rule.now) (contents chart.now.plan).uses task) locks.now }
+    ensures { result ≡ newest_task (blocks_under (R.meaning rule.now) (contents chart.now.plan).uses task) locks.now }
 {
     for i in (0..locks.len()).rev() {
         if blocks(rule, chart, task, locks[i]) {

@@ -71,7 +71,7 @@ pub fn holds(locks: &[LockRecord], task: u8, object: u8, mode: u8) -> bool
 
 // Whether the task has the object in a mode that reads the part.
 pub fn may_read<R: LockRule>(rule: &R, locks: &[LockRecord], task: u8, object: u8, part: u8) -> bool
-    ensures { result ≡ any (covers (λ mode. (meaning rule.now).reads mode part) task object) locks.now }
+    ensures { result ≡ any (covers (λ mode. (R.meaning rule.now).reads mode part) task object) locks.now }
 {
     let test = Reads {
         rule,
@@ -90,7 +90,7 @@ pub fn may_write<R: LockRule>(
     object: u8,
     part: u8,
 ) -> bool
-    ensures { result ≡ any (covers (λ mode. (meaning rule.now).writes mode part) task object) locks.now }
+    ensures { result ≡ any (covers (λ mode. (R.meaning rule.now).writes mode part) task object) locks.now }
 {
     let test = Writes {
         rule,

@@ -1,4 +1,6 @@
 // A plan that was accepted, and what a manager asks of it and of the locks that are held.
+#![tactic(auto)]
+
 mod blocking;
 mod chart;
 mod cover;

@@ -85,7 +85,7 @@ impl Chart {
 
     // The highest task that a lock of the object can keep waiting. The uses are not gone through again.
     pub fn ceiling<R: LockRule>(&self, rule: &R, object: u8, held: u8) -> u8
-        ensures { result ≡ ceiling (meaning rule.now) (contents self.now.plan).uses object held }
+        ensures { result ≡ ceiling (R.meaning rule.now) (contents self.now.plan).uses object held }
     {
         let mut least: u8 = NO_TASK;
         for wanted in 0..MODES {

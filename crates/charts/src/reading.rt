@@ -27,9 +27,9 @@ impl Chart {
 impl<R: LockRule + Drop> Planned<R> {
     // The plan at the front of the input, and the input after it.
     pub fn read<'a>(rule: R, input: &'a [u8]) -> Result<(Planned<R>, &'a [u8]), Refusal>
-        ensures answer { MatchResult result (λ p. read_plan (meaning rule) input.now ≡ Ok (contents p.0.chart.plan, p.1.now)) (λ why. read_plan (meaning rule) input.now ≡ Err why) }
+        ensures answer { MatchResult result (λ p. read_plan (R.meaning rule) input.now ≡ Ok (contents p.0.chart.plan, p.1.now)) (λ why. read_plan (R.meaning rule) input.now ≡ Err why) }
         ensures rule { IfOk result (λ p. p.0.rule ≡ rule) }
-        ensures limits { IfOk result (λ p. Limits (meaning rule) (contents p.0.chart.plan)) }
+        ensures limits { IfOk result (λ p. Limits (R.meaning rule) (contents p.0.chart.plan)) }
     {
         let (plan, rest) = Plan::read(&rule, input)?;
         let chart = Chart::of(plan);
@@ -38,9 +38,9 @@ impl<R: LockRule + Drop> Planned<R> {
 
     // The plan, where it is all of the input.
     pub fn read_whole(rule: R, input: &[u8]) -> Result<Planned<R>, Refusal>
-        ensures answer { MatchResult result (λ p. read_whole (meaning rule) input.now ≡ Ok (contents p.chart.plan)) (λ why. read_whole (meaning rule) input.now ≡ Err why) }
+        ensures answer { MatchResult result (λ p. read_whole (R.meaning rule) input.now ≡ Ok (contents p.chart.plan)) (λ why. read_whole (R.meaning rule) input.now ≡ Err why) }
         ensures rule { IfOk result (λ p. p.rule ≡ rule) }
-        ensures limits { IfOk result (λ p. Limits (meaning rule) (contents p.chart.plan)) }
+        ensures limits { IfOk result (λ p. Limits (R.meaning rule) (contents p.chart.plan)) }
     {
         let (planned, rest) = Planned::read(rule, input)?;
         if rest.is_empty() {

@@ -1,4 +1,6 @@
 // A fusing task's code with a ticket: it arrives, locks the heading, writes it and closes. Every way out ends the ticket.
+#![tactic(auto)]
+
 use manager::{Locked, Manager};
 use plans::Refusal;
 use protocol::{Account, Image, LockRecord};

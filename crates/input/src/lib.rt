@@ -1,4 +1,6 @@
 // Reading standard input no further than matters, so that a program copes with an endless one.
+#![tactic(auto)]
+
 ghost use Rattle.std.specs.Prelude.{◌+◌, ◌≤◌, IfOk, vec_len};
 ghost use Rattle.input.specs.Chunks.{Longer};
 

@@ -30,7 +30,7 @@ impl<'a, R: LockRule> Manager<'a, R> {
     fn end(&mut self, task: u8)
         requires { names task (running self.old.roster.tasks) ≡ true }
         ensures state { (cells : List ℤ) (left : List ℤ) → view self.new left ≡ ended (view self.old cells) task left }
-        ensures setup { setup_of meaning self.new ≡ setup_of meaning self.old }
+        ensures setup { setup_of R.meaning self.new ≡ setup_of R.meaning self.old }
     {
         end(&mut self.roster, task);
         self.locks.remove_of(task);
@@ -39,9 +39,9 @@ impl<'a, R: LockRule> Manager<'a, R> {
 
     // The running task's instance is done: what it wrote stays.
     pub fn close(&mut self, task: u8) -> Result<Account, Refusal>
-        ensures answer { (cells : List ℤ) → close_answer result ≡ (close (setup_of meaning self.old) (view self.old cells) task).answer }
-        ensures state { (cells : List ℤ) → view self.new cells ≡ (close (setup_of meaning self.old) (view self.old cells) task).left }
-        ensures setup { setup_of meaning self.new ≡ setup_of meaning self.old }
+        ensures answer { (cells : List ℤ) → close_answer result ≡ (close (setup_of R.meaning self.old) (view self.old cells) task).answer }
+        ensures state { (cells : List ℤ) → view self.new cells ≡ (close (setup_of R.meaning self.old) (view self.old cells) task).left }
+        ensures setup { setup_of R.meaning self.new ≡ setup_of R.meaning self.old }
     {
         if !self.chart.has_task(task) {
             return Err(Refusal::NumberNotThere);
@@ -56,9 +56,9 @@ impl<'a, R: LockRule> Manager<'a, R> {
 
     // The running task's instance is given up: what it wrote is put back.
     pub fn drop_task(&mut self, cells: &mut [i32], task: u8) -> Result<Account, Refusal>
-        ensures answer { drop_answer result ≡ (drop_task (setup_of meaning self.old) (view self.old cells.old) task).answer }
-        ensures state { view self.new cells.new ≡ (drop_task (setup_of meaning self.old) (view self.old cells.old) task).left }
-        ensures setup { setup_of meaning self.new ≡ setup_of meaning self.old }
+        ensures answer { drop_answer result ≡ (drop_task (setup_of R.meaning self.old) (view self.old cells.old) task).answer }
+        ensures state { view self.new cells.new ≡ (drop_task (setup_of R.meaning self.old) (view self.old cells.old) task).left }
+        ensures setup { setup_of R.meaning self.new ≡ setup_of R.meaning self.old }
     {
         if cells.len() < CELLS {
             return Err(Refusal::FewCells);
@@ -77,9 +77,9 @@ impl<'a, R: LockRule> Manager<'a, R> {
 
     // A tick of the clock is the running task's, as long as its budget lasts.
     pub fn tick(&mut self) -> Result<Ticked, Refusal>
-        ensures answer { (cells : List ℤ) → tick_answer result ≡ (tick (setup_of meaning self.old) (view self.old cells)).answer }
-        ensures state { (cells : List ℤ) → view self.new cells ≡ (tick (setup_of meaning self.old) (view self.old cells)).left }
-        ensures setup { setup_of meaning self.new ≡ setup_of meaning self.old }
+        ensures answer { (cells : List ℤ) → tick_answer result ≡ (tick (setup_of R.meaning self.old) (view self.old cells)).answer }
+        ensures state { (cells : List ℤ) → view self.new cells ≡ (tick (setup_of R.meaning self.old) (view self.old cells)).left }
+        ensures setup { setup_of R.meaning self.new ≡ setup_of R.meaning self.old }
     {
         match self.roster.running() {
             None => Ok(Ticked::Idle),

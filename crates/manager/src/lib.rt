@@ -1,4 +1,6 @@
 // The lock manager: locks under the priority ceiling protocol on one processor. Its machine and laws are in `protocol`.
+#![tactic(auto)]
+
 mod answers;
 mod calls;
 mod ends;

@@ -78,9 +78,9 @@ fn ticked(res: Result<Ticked, Refusal>) -> Answer
 impl<'a, R: LockRule> Manager<'a, R> {
     // Makes the call.
     fn make_call(&mut self, cells: &mut [i32], call: Call) -> Answer
-        ensures answer { result ≡ (step (setup_of meaning self.old) (view self.old cells.old) call).answer }
-        ensures state { view self.new cells.new ≡ (step (setup_of meaning self.old) (view self.old cells.old) call).left }
-        ensures setup { setup_of meaning self.new ≡ setup_of meaning self.old }
+        ensures answer { result ≡ (step (setup_of R.meaning self.old) (view self.old cells.old) call).answer }
+        ensures state { view self.new cells.new ≡ (step (setup_of R.meaning self.old) (view self.old cells.old) call).left }
+        ensures setup { setup_of R.meaning self.new ≡ setup_of R.meaning self.old }
     {
         match call {
             Call::Arrive { task } => arrived(self.arrive(task)),
@@ -100,10 +100,10 @@ impl<'a, R: LockRule> Manager<'a, R> {
 
     // Makes the call. Whatever calls were made since the making, all laws hold of their line with this one.
     pub fn call(&mut self, cells: &mut [i32], call: Call) -> Answer
-        ensures answer { result ≡ (step (setup_of meaning self.old) (view self.old cells.old) call).answer }
-        ensures state { view self.new cells.new ≡ (step (setup_of meaning self.old) (view self.old cells.old) call).left }
-        ensures setup { setup_of meaning self.new ≡ setup_of meaning self.old }
-        ensures laws { LeadsOn (setup_of meaning self.old) (view self.old cells.old) (view self.new cells.new) (λ line. record { call = call; answer = result } ∷ line) }
+        ensures answer { result ≡ (step (setup_of R.meaning self.old) (view self.old cells.old) call).answer }
+        ensures state { view self.new cells.new ≡ (step (setup_of R.meaning self.old) (view self.old cells.old) call).left }
+        ensures setup { setup_of R.meaning self.new ≡ setup_of R.meaning self.old }
+        ensures laws { LeadsOn (setup_of R.meaning self.old) (view self.old cells.old) (view self.new cells.new) (λ line. record { call = call; answer = result } ∷ line) }
     {
         self.make_call(cells, call)
     }
@@ -111,10 +111,10 @@ impl<'a, R: LockRule> Manager<'a, R> {
     // Makes the calls in their order, as many as there is room for answers, and says how many they were.
     pub fn play(&mut self, cells: &mut [i32], calls: &[Call], answers: &mut [Answer]) -> usize
         ensures count { result ≡ min (length calls.now) (length answers.old) }
-        ensures answers { answers.new ≡ answers_to (setup_of meaning self.old) (view self.old cells.old) (take result calls.now) ++ drop result answers.old }
-        ensures state { view self.new cells.new ≡ final (setup_of meaning self.old) (view self.old cells.old) (take result calls.now) }
-        ensures setup { setup_of meaning self.new ≡ setup_of meaning self.old }
-        ensures laws { LeadsOn (setup_of meaning self.old) (view self.old cells.old) (view self.new cells.new) (line_with (setup_of meaning self.old) (view self.old cells.old) (take result calls.now)) }
+        ensures answers { answers.new ≡ answers_to (setup_of R.meaning self.old) (view self.old cells.old) (take result calls.now) ++ drop result answers.old }
+        ensures state { view self.new cells.new ≡ final (setup_of R.meaning self.old) (view self.old cells.old) (take result calls.now) }
+        ensures setup { setup_of R.meaning self.new ≡ setup_of R.meaning self.old }
+        ensures laws { LeadsOn (setup_of R.meaning self.old) (view self.old cells.old) (view self.new cells.new) (line_with (setup_of R.meaning self.old) (view self.old cells.old) (take result calls.now)) }
     {
         let count = calls.len().min(answers.len());
         for i in 0..count {

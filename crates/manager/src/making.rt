@@ -24,8 +24,8 @@ impl<'a, R: LockRule + Drop> Manager<'a, R> {
         journal: &'a mut [Image],
     ) -> Result<Manager<'a, R>, Refusal>
         ensures answer { refusal_of result ≡ (if nat_lt (length cells.old) 128 then Some FewCells else None) }
-        ensures setup { IfOk result (λ m. setup_of meaning m ≡ setup_with (meaning planned.rule) (contents planned.chart.plan) (length locks.old) (length journal.old)) }
-        ensures started { IfOk result (λ m. Limits (meaning planned.rule) (contents planned.chart.plan) → Started (setup_of meaning m) cells.old (view m cells.new)) }
+        ensures setup { IfOk result (λ m. setup_of R.meaning m ≡ setup_with (R.meaning planned.rule) (contents planned.chart.plan) (length locks.old) (length journal.old)) }
+        ensures started { IfOk result (λ m. Limits (R.meaning planned.rule) (contents planned.chart.plan) → Started (setup_of R.meaning m) cells.old (view m cells.new)) }
         ensures untouched { OnErr result (cells.new ≡ cells.old) }
     {
         let (rule, chart) = planned.into_parts();
@@ -49,10 +49,10 @@ impl<'a, R: LockRule + Drop> Manager<'a, R> {
         locks: &'a mut [LockRecord],
         journal: &'a mut [Image],
     ) -> Result<Manager<'a, R>, Refusal>
-        ensures answer { refusal_of result ≡ make_refusal (read_whole (meaning rule) bytes.now) cells.old }
-        ensures plan { IfOk result (λ m. read_whole (meaning rule) bytes.now ≡ Ok (setup_of meaning m).plan) }
-        ensures setup { IfOk result (λ m. setup_of meaning m ≡ setup_with (meaning rule) (setup_of meaning m).plan (length locks.old) (length journal.old)) }
-        ensures started { IfOk result (λ m. Started (setup_of meaning m) cells.old (view m cells.new)) }
+        ensures answer { refusal_of result ≡ make_refusal (read_whole (R.meaning rule) bytes.now) cells.old }
+        ensures plan { IfOk result (λ m. read_whole (R.meaning rule) bytes.now ≡ Ok (setup_of R.meaning m).plan) }
+        ensures setup { IfOk result (λ m. setup_of R.meaning m ≡ setup_with (R.meaning rule) (setup_of R.meaning m).plan (length locks.old) (length journal.old)) }
+        ensures started { IfOk result (λ m. Started (setup_of R.meaning m) cells.old (view m cells.new)) }
         ensures untouched { OnErr result (cells.new ≡ cells.old) }
     {
         let planned = Planned::read_whole(rule, bytes)?;

@@ -39,7 +39,7 @@ impl<'a, R: LockRule> Manager<'a, R> {
 
     // The record of a task of the plan.
     pub fn task(&self, task: u8) -> Option<Task>
-        ensures { result ≡ (if has_task (setup_of meaning self.now) task then Some (task_at self.now.roster.tasks task) else None) }
+        ensures { result ≡ (if has_task (setup_of R.meaning self.now) task then Some (task_at self.now.roster.tasks task) else None) }
     {
         if self.chart.has_task(task) {
             Some(self.roster.task(task))

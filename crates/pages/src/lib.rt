@@ -1,4 +1,6 @@
 // A page of fixed size, and adding text, numbers and columns to it.
+#![tactic(auto)]
+
 mod page;
 mod writing;
 

@@ -28,13 +28,13 @@ pub struct Bound {
 }
 
 fn is_excluded<R: LockRule>(rule: &R, object: usize, held: u8, u: Use) -> bool
-    ensures { result ≡ excluded (meaning rule.now) object held u }
+    ensures { result ≡ excluded (R.meaning rule.now) object held u }
 {
     u.object as usize == object && rule.clashes(held, u.mode)
 }
 
 fn ceiling_of<R: LockRule>(rule: &R, uses: &[Use], object: usize, held: u8) -> u8
-    ensures { result ≡ ceiling (meaning rule.now) uses.now object held }
+    ensures { result ≡ ceiling (R.meaning rule.now) uses.now object held }
 {
     let mut least = NO_TASK;
     for u in uses {
@@ -47,7 +47,7 @@ fn ceiling_of<R: LockRule>(rule: &R, uses: &[Use], object: usize, held: u8) -> u
 
 // Whether the use is a reason for the ceiling.
 fn attains<R: LockRule>(rule: &R, object: usize, held: u8, ceiling: u8, u: Use) -> bool
-    ensures { result ≡ attains (meaning rule.now) object held ceiling u }
+    ensures { result ≡ attains (R.meaning rule.now) object held ceiling u }
 {
     is_excluded(rule, object, held, u) && u.task == ceiling
 }
@@ -59,7 +59,7 @@ fn first_attaining<R: LockRule>(
     ceiling: u8,
     uses: &[Use],
 ) -> Option<Use>
-    ensures { result ≡ first (attains (meaning rule.now) object held ceiling) uses.now }
+    ensures { result ≡ first (attains (R.meaning rule.now) object held ceiling) uses.now }
 {
     for u in uses {
         if attains(rule, object, held, ceiling, *u) {
@@ -71,14 +71,14 @@ fn first_attaining<R: LockRule>(
 
 // Whether a lower task's lock can keep the task waiting.
 fn delays<R: LockRule>(rule: &R, uses: &[Use], task: usize, u: Use) -> bool
-    ensures { result ≡ delays (meaning rule.now) uses.now task u }
+    ensures { result ≡ delays (R.meaning rule.now) uses.now task u }
 {
     task < u.task as usize && task >= ceiling_of(rule, uses, u.object as usize, u.mode) as usize
 }
 
 // The greatest budget behind these uses.
 fn bound_over<R: LockRule>(rule: &R, plan: &Plan, task: usize, uses: &[Use]) -> u16
-    ensures { result ≡ bound_over (meaning rule.now) (contents plan.now) task uses.now }
+    ensures { result ≡ bound_over (R.meaning rule.now) (contents plan.now) task uses.now }
 {
     let mut greatest: u16 = 0;
     for u in uses {
@@ -91,7 +91,7 @@ fn bound_over<R: LockRule>(rule: &R, plan: &Plan, task: usize, uses: &[Use]) -> 
 
 // Whether the use is a reason for the bound.
 fn costs<R: LockRule>(rule: &R, plan: &Plan, task: usize, bound: u16, u: Use) -> bool
-    ensures { result ≡ costs (meaning rule.now) (contents plan.now) task bound u }
+    ensures { result ≡ costs (R.meaning rule.now) (contents plan.now) task bound u }
 {
     delays(rule, plan.uses(), task, u) && plan.budget(u.task as usize) == bound
 }
@@ -103,7 +103,7 @@ fn first_cost<R: LockRule>(
     bound: u16,
     uses: &[Use],
 ) -> Option<Use>
-    ensures { result ≡ first (costs (meaning rule.now) (contents plan.now) task bound) uses.now }
+    ensures { result ≡ first (costs (R.meaning rule.now) (contents plan.now) task bound) uses.now }
 {
     for u in uses {
         if costs(rule, plan, task, bound, *u) {
@@ -121,8 +121,8 @@ impl Plan {
         object: usize,
         mode: usize,
     ) -> Result<Ceiling, Refusal>
-        ensures answer { result ≡ ceiling_answer (meaning rule.now) (contents self.now) object mode }
-        ensures law { IfOk result (λ c. CeilingLaw (meaning rule.now) (contents self.now).uses object mode c.value c.reason) }
+        ensures answer { result ≡ ceiling_answer (R.meaning rule.now) (contents self.now) object mode }
+        ensures law { IfOk result (λ c. CeilingLaw (R.meaning rule.now) (contents self.now).uses object mode c.value c.reason) }
     {
         if object >= self.objects().len() || mode >= rule.modes() as usize {
             return Err(Refusal::NumberNotThere);
@@ -137,8 +137,8 @@ impl Plan {
 
     // The bound of a task.
     pub fn bound<R: LockRule>(&self, rule: &R, task: usize) -> Result<Bound, Refusal>
-        ensures answer { result ≡ bound_answer (meaning rule.now) (contents self.now) task }
-        ensures law { IfOk result (λ b. BoundLaw (meaning rule.now) (contents self.now) task b.value b.reason) }
+        ensures answer { result ≡ bound_answer (R.meaning rule.now) (contents self.now) task }
+        ensures law { IfOk result (λ b. BoundLaw (R.meaning rule.now) (contents self.now) task b.value b.reason) }
     {
         if task >= self.rows().len() {
             return Err(Refusal::NumberNotThere);

@@ -1,4 +1,6 @@
 // Plans: what is locked by whom, read from bytes, with its ceilings and bounds. Rules are in `rules`.
+#![tactic(auto)]
+
 mod ceilings;
 mod parts;
 mod plan;

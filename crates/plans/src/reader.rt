@@ -255,7 +255,7 @@ fn read_others<'a, R: LockRule>(
     objects: Table<Object, MOST_OBJECTS>,
     bytes: &'a [u8],
 ) -> Result<(Plan, &'a [u8]), Refusal>
-    ensures { MatchResult result (λ p. read_others (meaning rule.now) (items objects) bytes.now ≡ Ok (contents p.0, p.1.now)) (λ why. read_others (meaning rule.now) (items objects) bytes.now ≡ Err why) }
+    ensures { MatchResult result (λ p. read_others (R.meaning rule.now) (items objects) bytes.now ≡ Ok (contents p.0, p.1.now)) (λ why. read_others (R.meaning rule.now) (items objects) bytes.now ≡ Err why) }
 {
     let (rows, rest) = match read_rows(bytes) {
         Ok(found) => found,
@@ -278,8 +278,8 @@ fn read_others<'a, R: LockRule>(
 impl Plan {
     // The plan at the front of the input, and the input after it.
     pub fn read<'a, R: LockRule>(rule: &R, input: &'a [u8]) -> Result<(Plan, &'a [u8]), Refusal>
-        ensures answer { MatchResult result (λ p. read_plan (meaning rule.now) input.now ≡ Ok (contents p.0, p.1.now)) (λ why. read_plan (meaning rule.now) input.now ≡ Err why) }
-        ensures law { AcceptedExactly (meaning rule.now) input.now }
+        ensures answer { MatchResult result (λ p. read_plan (R.meaning rule.now) input.now ≡ Ok (contents p.0, p.1.now)) (λ why. read_plan (R.meaning rule.now) input.now ≡ Err why) }
+        ensures law { AcceptedExactly (R.meaning rule.now) input.now }
     {
         match read_short(&Objects, Object { start: [0; 4] }, input) {
             Ok((objects, rest)) => read_others(rule, objects, rest),
@@ -289,8 +289,8 @@ impl Plan {
 
     // The plan, where it is all of the input.
     pub fn read_whole<R: LockRule>(rule: &R, input: &[u8]) -> Result<Plan, Refusal>
-        ensures answer { MatchResult result (λ p. read_whole (meaning rule.now) input.now ≡ Ok (contents p)) (λ why. read_whole (meaning rule.now) input.now ≡ Err why) }
-        ensures law { AcceptedWhole (meaning rule.now) input.now }
+        ensures answer { MatchResult result (λ p. read_whole (R.meaning rule.now) input.now ≡ Ok (contents p)) (λ why. read_whole (R.meaning rule.now) input.now ≡ Err why) }
+        ensures law { AcceptedWhole (R.meaning rule.now) input.now }
     {
         match Plan::read(rule, input) {
             Ok((plan, rest)) if rest.is_empty() => Ok(plan),

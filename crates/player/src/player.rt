@@ -43,9 +43,9 @@ fn count_lines(tape: &[u8]) -> usize
 
 // An unreadable line is answered by a refusal, and makes no call.
 fn play_item<R: LockRule>(manager: &mut Manager<'_, R>, cells: &mut [i32], item: Item<'_>) -> Answer
-    ensures answer { result ≡ (outcome (setup_of meaning manager.old) (view manager.old cells.old) (entry item.entry)).answer }
-    ensures state { view manager.new cells.new ≡ (outcome (setup_of meaning manager.old) (view manager.old cells.old) (entry item.entry)).left }
-    ensures setup { setup_of meaning manager.new ≡ setup_of meaning manager.old }
+    ensures answer { result ≡ (outcome (setup_of R.meaning manager.old) (view manager.old cells.old) (entry item.entry)).answer }
+    ensures state { view manager.new cells.new ≡ (outcome (setup_of R.meaning manager.old) (view manager.old cells.old) (entry item.entry)).left }
+    ensures setup { setup_of R.meaning manager.new ≡ setup_of R.meaning manager.old }
 {
     match item {
         Item::Call(call) => manager.call(cells, call),
@@ -60,9 +60,9 @@ fn play_lines<R: LockRule>(
     sheet: &mut [u8],
 ) -> Result<usize, Refusal>
     requires { 32 * length (lines tape.now) ≤ length sheet.old }
-    ensures sheet { MatchResult result (λ n. Put sheet.old 0 (play_sheet (setup_of meaning manager.old) (view manager.old cells.old) (entries 0 (lines tape.now))) sheet.new n) (λ _. ⊥) }
-    ensures state { view manager.new cells.new ≡ play_state (setup_of meaning manager.old) (view manager.old cells.old) (entries 0 (lines tape.now)) }
-    ensures setup { setup_of meaning manager.new ≡ setup_of meaning manager.old }
+    ensures sheet { MatchResult result (λ n. Put sheet.old 0 (play_sheet (setup_of R.meaning manager.old) (view manager.old cells.old) (entries 0 (lines tape.now))) sheet.new n) (λ _. ⊥) }
+    ensures state { view manager.new cells.new ≡ play_state (setup_of R.meaning manager.old) (view manager.old cells.old) (entries 0 (lines tape.now)) }
+    ensures setup { setup_of R.meaning manager.new ≡ setup_of R.meaning manager.old }
 {
     let mut at = 0;
     for item in Tape::new(tape) {
@@ -79,8 +79,8 @@ fn play_tape<R: LockRule + Drop>(
     sheet: &mut [u8],
 ) -> Result<usize, Refusal>
     requires room { 32 * length (lines tape.now) ≤ length sheet.old }
-    requires limits { Limits (meaning planned.rule) (contents planned.chart.plan) }
-    ensures { MatchResult result (λ n. Put sheet.old 0 (tape_sheet (meaning planned.rule) (contents planned.chart.plan) tape.now) sheet.new n) (λ _. ⊥) }
+    requires limits { Limits (R.meaning planned.rule) (contents planned.chart.plan) }
+    ensures { MatchResult result (λ n. Put sheet.old 0 (tape_sheet (R.meaning planned.rule) (contents planned.chart.plan) tape.now) sheet.new n) (λ _. ⊥) }
 {
     let mut cells = [0; CELLS];
     let mut locks = [LockRecord {
@@ -99,8 +99,8 @@ fn play_tape<R: LockRule + Drop>(
 
 // Plays the tape that stands after the plan. The answer is how many bytes of the sheet were written; a refused play leaves it as it was.
 pub fn play<R: LockRule + Drop>(rule: R, input: &[u8], sheet: &mut [u8]) -> Result<usize, Refusal>
-    ensures sheet { Plays (play_input (meaning rule) input.now (length sheet.old)) sheet.old sheet.new result }
-    ensures laws { PlayLaws (meaning rule) input.now }
+    ensures sheet { Plays (play_input (R.meaning rule) input.now (length sheet.old)) sheet.old sheet.new result }
+    ensures laws { PlayLaws (R.meaning rule) input.now }
 {
     if input.len() > MOST_INPUT {
         return Err(Refusal::CountOutOfLimits);

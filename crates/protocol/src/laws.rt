@@ -8,7 +8,7 @@ use rules::LockRule;
 
 // After every line of calls from an accepted making, all of the laws hold, whatever the plan, the room and the calls.
 pub fn laws_hold<R: LockRule>()
-    ensures { (rule : R) → LawsHold (meaning rule) }
+    ensures { (rule : R) → LawsHold (R.meaning rule) }
 {}
 
 // The served word, the places and the running task agree, whatever the 16 task records.

@@ -1,4 +1,6 @@
 // The protocol: the words in which calls and answers are put. The machine and its laws are in specs/, the manager that runs them in `manager`.
+#![tactic(auto)]
+
 mod laws;
 mod words;
 

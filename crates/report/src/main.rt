@@ -1,4 +1,6 @@
 // Prints a plan's ceilings and bounds, each with the reason for the number. Input: a rule byte, then the plan.
+#![tactic(auto)]
+
 use input::read_past;
 use report_pages::page_on;
 use std::io;

@@ -1,4 +1,6 @@
 // Reports at the edges: the worked plan with one byte changed, some other plans, and what is printed then.
+#![tactic(auto)]
+
 use report_pages::page_on;
 use reports::report_on;
 use std::io;

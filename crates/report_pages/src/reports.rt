@@ -70,8 +70,8 @@ fn add_ceiling_reason(page: &mut Page, reason: Option<Use>)
 
 fn add_ceiling<R: LockRule>(page: &mut Page, rule: &R, plan: &Plan, object: u8, mode: u8)
     requires object { object < length (contents plan.now).objects }
-    requires mode { mode < (meaning rule.now).modes }
-    ensures { Added page.old (ceiling_line (meaning rule.now) (contents plan.now).uses object mode) page.new }
+    requires mode { mode < (R.meaning rule.now).modes }
+    ensures { Added page.old (ceiling_line (R.meaning rule.now) (contents plan.now).uses object mode) page.new }
 {
     if let Ok(ceiling) = plan.ceiling(rule, object as usize, mode as usize) {
         page.add_column(6, object as u16);
@@ -83,7 +83,7 @@ fn add_ceiling<R: LockRule>(page: &mut Page, rule: &R, plan: &Plan, object: u8, 
 
 fn add_ceilings_of<R: LockRule>(page: &mut Page, rule: &R, plan: &Plan, object: u8)
     requires { object < length (contents plan.now).objects }
-    ensures { Added page.old (numbered_lines (meaning rule.now).modes (ceiling_line (meaning rule.now) (contents plan.now).uses object)) page.new }
+    ensures { Added page.old (numbered_lines (R.meaning rule.now).modes (ceiling_line (R.meaning rule.now) (contents plan.now).uses object)) page.new }
 {
     for mode in 0..rule.modes() {
         add_ceiling(page, rule, plan, object, mode);
@@ -92,7 +92,7 @@ fn add_ceilings_of<R: LockRule>(page: &mut Page, rule: &R, plan: &Plan, object: 
 
 fn add_ceiling_lines<R: LockRule>(page: &mut Page, rule: &R, plan: &Plan)
     requires { length (contents plan.now).objects ≤ 32 }
-    ensures { Added page.old (numbered_lines (length (contents plan.now).objects) (λ object. numbered_lines (meaning rule.now).modes (ceiling_line (meaning rule.now) (contents plan.now).uses object))) page.new }
+    ensures { Added page.old (numbered_lines (length (contents plan.now).objects) (λ object. numbered_lines (R.meaning rule.now).modes (ceiling_line (R.meaning rule.now) (contents plan.now).uses object))) page.new }
 {
     for object in 0..plan.objects().len() as u8 {
         add_ceilings_of(page, rule, plan, object);
@@ -101,7 +101,7 @@ fn add_ceiling_lines<R: LockRule>(page: &mut Page, rule: &R, plan: &Plan)
 
 fn add_ceilings<R: LockRule>(page: &mut Page, rule: &R, plan: &Plan)
     requires { length (contents plan.now).objects ≤ 32 }
-    ensures { Added page.old (ceilings_text (meaning rule.now) (contents plan.now)) page.new }
+    ensures { Added page.old (ceilings_text (R.meaning rule.now) (contents plan.now)) page.new }
 {
     page.add(b"\nobject  mode  ceiling  because\n");
     add_ceiling_lines(page, rule, plan);
@@ -109,8 +109,8 @@ fn add_ceilings<R: LockRule>(page: &mut Page, rule: &R, plan: &Plan)
 
 // The lock by which the use's task can hold another up.
 fn add_lock<R: LockRule>(page: &mut Page, rule: &R, plan: &Plan, u: Use)
-    requires { IsThere (meaning rule.now) (contents plan.now) u }
-    ensures { Added page.old (lock_text (meaning rule.now) (contents plan.now).uses u) page.new }
+    requires { IsThere (R.meaning rule.now) (contents plan.now) u }
+    ensures { Added page.old (lock_text (R.meaning rule.now) (contents plan.now).uses u) page.new }
 {
     if let Ok(ceiling) = plan.ceiling(rule, u.object as usize, u.mode as usize) {
         page.add(b"task ");
@@ -127,8 +127,8 @@ fn add_lock<R: LockRule>(page: &mut Page, rule: &R, plan: &Plan, u: Use)
 
 // Why the bound is what it is.
 fn add_bound_reason<R: LockRule>(page: &mut Page, rule: &R, plan: &Plan, reason: Option<Use>)
-    requires { ReasonThere (meaning rule.now) (contents plan.now) reason }
-    ensures { Added page.old (bound_because (meaning rule.now) (contents plan.now).uses reason) page.new }
+    requires { ReasonThere (R.meaning rule.now) (contents plan.now) reason }
+    ensures { Added page.old (bound_because (R.meaning rule.now) (contents plan.now).uses reason) page.new }
 {
     match reason {
         Some(u) => add_lock(page, rule, plan, u),
@@ -137,9 +137,9 @@ fn add_bound_reason<R: LockRule>(page: &mut Page, rule: &R, plan: &Plan, reason:
 }
 
 fn add_bound<R: LockRule>(page: &mut Page, rule: &R, plan: &Plan, task: u8)
-    requires limits { Limits (meaning rule.now) (contents plan.now) }
+    requires limits { Limits (R.meaning rule.now) (contents plan.now) }
     requires task { task < length (contents plan.now).rows }
-    ensures { Added page.old (bound_line (meaning rule.now) (contents plan.now) task) page.new }
+    ensures { Added page.old (bound_line (R.meaning rule.now) (contents plan.now) task) page.new }
 {
     let row = plan.rows()[task as usize];
     if let Ok(bound) = plan.bound(rule, task as usize) {
@@ -152,8 +152,8 @@ fn add_bound<R: LockRule>(page: &mut Page, rule: &R, plan: &Plan, task: u8)
 }
 
 fn add_bound_lines<R: LockRule>(page: &mut Page, rule: &R, plan: &Plan)
-    requires { Limits (meaning rule.now) (contents plan.now) }
-    ensures { Added page.old (numbered_lines (length (contents plan.now).rows) (bound_line (meaning rule.now) (contents plan.now))) page.new }
+    requires { Limits (R.meaning rule.now) (contents plan.now) }
+    ensures { Added page.old (numbered_lines (length (contents plan.now).rows) (bound_line (R.meaning rule.now) (contents plan.now))) page.new }
 {
     for task in 0..plan.rows().len() as u8 {
         add_bound(page, rule, plan, task);
@@ -161,8 +161,8 @@ fn add_bound_lines<R: LockRule>(page: &mut Page, rule: &R, plan: &Plan)
 }
 
 fn add_bounds<R: LockRule>(page: &mut Page, rule: &R, plan: &Plan)
-    requires { Limits (meaning rule.now) (contents plan.now) }
-    ensures { Added page.old (bounds_text (meaning rule.now) (contents plan.now)) page.new }
+    requires { Limits (R.meaning rule.now) (contents plan.now) }
+    ensures { Added page.old (bounds_text (R.meaning rule.now) (contents plan.now)) page.new }
 {
     page.add(b"\ntask  period  budget  bound  because\n");
     add_bound_lines(page, rule, plan);
@@ -170,8 +170,8 @@ fn add_bounds<R: LockRule>(page: &mut Page, rule: &R, plan: &Plan)
 
 // The rule's name and the three tables.
 fn add_plan<R: LockRule>(page: &mut Page, rule: &R, name: &[u8], plan: &Plan)
-    requires { Limits (meaning rule.now) (contents plan.now) }
-    ensures { Added page.old (plan_text (meaning rule.now) name.now (contents plan.now)) page.new }
+    requires { Limits (R.meaning rule.now) (contents plan.now) }
+    ensures { Added page.old (plan_text (R.meaning rule.now) name.now (contents plan.now)) page.new }
 {
     page.add(b"rule: ");
     page.add(name);
@@ -210,7 +210,7 @@ fn add_refused(page: &mut Page, refusal: Refusal)
 }
 
 fn add_under<R: LockRule>(page: &mut Page, rule: &R, name: &[u8], bytes: &[u8])
-    ensures { Added page.old (told (meaning rule.now) name.now (read_whole (meaning rule.now) bytes.now)) page.new }
+    ensures { Added page.old (told (R.meaning rule.now) name.now (read_whole (R.meaning rule.now) bytes.now)) page.new }
 {
     match Plan::read_whole(rule, bytes) {
         Ok(plan) => add_plan(page, rule, name, &plan),

@@ -1,4 +1,6 @@
 // The text of a report: a plan's ceilings and bounds, each with the reason for the number.
+#![tactic(auto)]
+
 ghost use Rattle.std.specs.Prelude.{◌≡◌, IfOk, IfErr, string_bytes};
 ghost use Rattle.plans.specs.Reading.{read_whole};
 ghost use Rattle.reports.specs.Lines.{RefusalLine, Told, ToldUnder};
@@ -146,7 +148,7 @@ fn report_under<R: LockRule>(
     name: &str,
     bytes: &[u8],
 ) -> Result<String, AllocError>
-    ensures { IfOk result (λ s. IfErr (read_whole (meaning rule.now) bytes.now) (λ why. RefusalLine why (string_bytes s))) }
+    ensures { IfOk result (λ s. IfErr (read_whole (R.meaning rule.now) bytes.now) (λ why. RefusalLine why (string_bytes s))) }
 {
     match Plan::read_whole(rule, bytes) {
         Ok(plan) => text_of(heap, rule, name, &plan),

@@ -1,4 +1,6 @@
 // The records of the tasks: how each stands, who runs, and what calls make of them.
+#![tactic(auto)]
+
 mod roster;
 mod standings;
 mod turns;

@@ -1,4 +1,6 @@
 // Lock rules: what a mode of a lock reads and writes, and which modes clash. Plans are in `plans`.
+#![tactic(auto)]
+
 ghost use Rattle.std.specs.Prelude.{◌≡◌};
 ghost use Rattle.rules.specs.Meaning.{Meaning, Lawful, exclusive, read_write};
 ghost use Rattle.std.proofs.Common.{rules};

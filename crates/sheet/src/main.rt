@@ -1,4 +1,6 @@
 // Plays a tape: reads a rule byte, a plan and its tape, and prints the sheet, or `refused` and the number.
+#![tactic(auto)]
+
 ghost use Rattle.std.specs.Prelude.{length};
 ghost use Rattle.player.specs.Playing.{Plays};
 ghost use Rattle.sheet.specs.Inputs.{play_bytes};

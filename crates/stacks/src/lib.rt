@@ -1,4 +1,6 @@
 // Stacks of records in lent memory: one text for lock records and for images. The manager holds one of each.
+#![tactic(auto)]
+
 mod records;
 mod stack;
 

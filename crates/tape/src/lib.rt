@@ -1,4 +1,6 @@
 // Tapes: their lines as calls. Calls are in `protocol`; `player` plays a tape.
+#![tactic(auto)]
+
 mod items;
 mod lines;
 mod numbers;

@@ -1,4 +1,6 @@
 // Tapes at the edges: what the player answers to every refusal that a tape can meet, and to lines that it cannot read.
+#![tactic(auto)]
+
 use plans::Refusal;
 use player::play_numbered;
 use std::io;

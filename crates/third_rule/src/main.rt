@@ -1,4 +1,6 @@
 // A third lock rule through the same manager and player, with no line of them changed. What it plays is compared, and its laws come from the same contract.
+#![tactic(auto)]
+
 ghost use Rattle.protocol.specs.Laws.{LawsHold};
 ghost use Rattle.third_rule.specs.ByPart.{by_part};
 ghost use Rattle.std.proofs.Common.{rules};

@@ -13,9 +13,9 @@ use rules::LockRule;
 impl Ticket {
     // An instance of the task begins, and the ticket stands for it.
     pub fn arrive<R: LockRule>(manager: &mut Manager<'_, R>, task: u8) -> Result<Ticket, Refusal>
-        ensures answer { (cells : List ℤ) → arrive_answer result ≡ (arrive (setup_of meaning manager.old) (view manager.old cells) task).answer }
-        ensures state { (cells : List ℤ) → view manager.new cells ≡ (arrive (setup_of meaning manager.old) (view manager.old cells) task).left }
-        ensures setup { setup_of meaning manager.new ≡ setup_of meaning manager.old }
+        ensures answer { (cells : List ℤ) → arrive_answer result ≡ (arrive (setup_of R.meaning manager.old) (view manager.old cells) task).answer }
+        ensures state { (cells : List ℤ) → view manager.new cells ≡ (arrive (setup_of R.meaning manager.old) (view manager.old cells) task).left }
+        ensures setup { setup_of R.meaning manager.new ≡ setup_of R.meaning manager.old }
         ensures ticket { Given task result }
     {
         match manager.arrive(task) {
@@ -38,9 +38,9 @@ impl Ticket {
         object: u8,
         mode: u8,
     ) -> Result<Locked, Refusal>
-        ensures answer { (cells : List ℤ) → lock_answer result ≡ (lock (setup_of meaning manager.old) (view manager.old cells) self.now.task object mode).answer }
-        ensures state { (cells : List ℤ) → view manager.new cells ≡ (lock (setup_of meaning manager.old) (view manager.old cells) self.now.task object mode).left }
-        ensures setup { setup_of meaning manager.new ≡ setup_of meaning manager.old }
+        ensures answer { (cells : List ℤ) → lock_answer result ≡ (lock (setup_of R.meaning manager.old) (view manager.old cells) self.now.task object mode).answer }
+        ensures state { (cells : List ℤ) → view manager.new cells ≡ (lock (setup_of R.meaning manager.old) (view manager.old cells) self.now.task object mode).left }
+        ensures setup { setup_of R.meaning manager.new ≡ setup_of R.meaning manager.old }
     {
         manager.lock(self.task, object, mode)
     }
@@ -53,7 +53,7 @@ impl Ticket {
         object: u8,
         part: u8,
     ) -> Result<i32, Refusal>
-        ensures { read_answer result ≡ (read (setup_of meaning manager.now) (view manager.now cells.now) self.now.task object part).answer }
+        ensures { read_answer result ≡ (read (setup_of R.meaning manager.now) (view manager.now cells.now) self.now.task object part).answer }
     {
         manager.read(cells, self.task, object, part)
     }
@@ -67,9 +67,9 @@ impl Ticket {
         part: u8,
         value: i32,
     ) -> Result<(), Refusal>
-        ensures answer { write_answer result ≡ (write (setup_of meaning manager.old) (view manager.old cells.old) self.now.task object part value).answer }
-        ensures state { view manager.new cells.new ≡ (write (setup_of meaning manager.old) (view manager.old cells.old) self.now.task object part value).left }
-        ensures setup { setup_of meaning manager.new ≡ setup_of meaning manager.old }
+        ensures answer { write_answer result ≡ (write (setup_of R.meaning manager.old) (view manager.old cells.old) self.now.task object part value).answer }
+        ensures state { view manager.new cells.new ≡ (write (setup_of R.meaning manager.old) (view manager.old cells.old) self.now.task object part value).left }
+        ensures setup { setup_of R.meaning manager.new ≡ setup_of R.meaning manager.old }
     {
         manager.write(cells, self.task, object, part, value)
     }
@@ -79,9 +79,9 @@ impl Ticket {
         self,
         manager: &mut Manager<'_, R>,
     ) -> Result<Account, (Refusal, Ticket)>
-        ensures answer { (cells : List ℤ) → close_answer result ≡ (close (setup_of meaning manager.old) (view manager.old cells) self.task).answer }
-        ensures state { (cells : List ℤ) → view manager.new cells ≡ (close (setup_of meaning manager.old) (view manager.old cells) self.task).left }
-        ensures setup { setup_of meaning manager.new ≡ setup_of meaning manager.old }
+        ensures answer { (cells : List ℤ) → close_answer result ≡ (close (setup_of R.meaning manager.old) (view manager.old cells) self.task).answer }
+        ensures state { (cells : List ℤ) → view manager.new cells ≡ (close (setup_of R.meaning manager.old) (view manager.old cells) self.task).left }
+        ensures setup { setup_of R.meaning manager.new ≡ setup_of R.meaning manager.old }
         ensures ticket { GivenBack self result }
     {
         match manager.close(self.task) {
@@ -99,9 +99,9 @@ impl Ticket {
         manager: &mut Manager<'_, R>,
         cells: &mut [i32],
     ) -> Result<Account, (Refusal, Ticket)>
-        ensures answer { drop_answer result ≡ (drop_task (setup_of meaning manager.old) (view manager.old cells.old) self.task).answer }
-        ensures state { view manager.new cells.new ≡ (drop_task (setup_of meaning manager.old) (view manager.old cells.old) self.task).left }
-        ensures setup { setup_of meaning manager.new ≡ setup_of meaning manager.old }
+        ensures answer { drop_answer result ≡ (drop_task (setup_of R.meaning manager.old) (view manager.old cells.old) self.task).answer }
+        ensures state { view manager.new cells.new ≡ (drop_task (setup_of R.meaning manager.old) (view manager.old cells.old) self.task).left }
+        ensures setup { setup_of R.meaning manager.new ≡ setup_of R.meaning manager.old }
         ensures ticket { GivenBack self result }
     {
         match manager.drop_task(cells, self.task) {

@@ -1,4 +1,6 @@
 // Tickets: what a task's code holds instead of its number, and cannot forget to end. The numbered calls are in `manager`.
+#![tactic(auto)]
+
 mod calls;
 mod ticket;
 

@@ -1,4 +1,6 @@
 // The worked examples as a theorem: what the definitions say of the plan in examples/ and at the edges of its limits.
+#![tactic(auto)]
+
 ghost use Rattle.worked.specs.NotEmpty.{NotEmpty};
 ghost use Rattle.worked.specs.Table.{WorkedExamples};
 
