@@ -5,5 +5,5 @@ use Rattle.input.proofs.read_past.Goals as goal
 
 pub returns-then-taken-eq0 : goal.returns-then-taken-eq0
 returns-then-taken-eq0 c =
-    let (few, more, long, grown) = c.in-ok-taken.ensures in
-    omega (arith, c.loop.invariant, c.loop.input.ok.0, c.read-more.new.input.ok.0, ap length grown ∙ length-append c.loop.input.items more, long, few)
+    let (few, more, long, grown) = c.in_ok-taken.ensures in
+    omega (arith, c.loop.invariant, c.loop.input.ok.0, c.read_more.new.input.ok.0, ap length grown ∙ length-append c.loop.input.items more, long, few)

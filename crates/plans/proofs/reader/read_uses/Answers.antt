@@ -8,5 +8,5 @@ use Rattle.plans.proofs.reader.read_uses.Goals as goal
 pub returns : goal.returns
 returns c =
     let bytes = c.args.bytes.now in
-    let opened = section_open 2 0 512 (get_or bytes 0 0 * 256 + get_or bytes 1 0) bytes (λ n. read_some (read_use c.args.tasks c.args.objects c.args.modes) n [] (drop 2 bytes)) c.if-bytes-lt2.false (omega arith) (omega (arith, c.from-be-bytes-count.ensures)) in
-    rw opened (rw (take_rest bytes 2, c.from-be-bytes-count.ensures) at c.read-some.ensures)
+    let opened = section_open 2 0 512 (get_or bytes 0 0 * 256 + get_or bytes 1 0) bytes (λ n. read_some (read_use c.args.tasks c.args.objects c.args.modes) n [] (drop 2 bytes)) c.if-bytes-lt2.false (omega arith) (omega (arith, c.from_be_bytes-count.ensures)) in
+    rw opened (rw (take_rest bytes 2, c.from_be_bytes-count.ensures) at c.read_some.ensures)

@@ -17,4 +17,4 @@ loop-i-preserved g c =
 pub returns : goal.returns
 returns g c =
     let end : c.loop-i.i ≡ c.min-i-end.result = omega arith in
-    c.loop-i.invariant.front ∙ ap (filter (λ x. not (eqb (g.T-as-Owned.owner x) c.args.task))) (rw (end, c.min-i-end.ensures) (take_min c.args.slots.now c.args.len))
+    c.loop-i.invariant.front ∙ ap (filter (λ x. not (eqb (g.T.Owned.owner x) c.args.task))) (rw (end, c.min-i-end.ensures) (take_min c.args.slots.now c.args.len))

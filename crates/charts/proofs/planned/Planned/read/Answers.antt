@@ -10,9 +10,9 @@ use Rattle.charts.proofs.planned.Planned.read.Goals as goal
 pub of-chart-requires : goal.of-chart-requires
 of-chart-requires g c =
     let m = g.R.LockRule.meaning c.args.rule in
-    let plan = contents c.in-ok-plan.plan in
-    let read = c.in-ok-plan.ensures in
-    let limits : Limits m plan = ((read.law plan c.in-ok-plan.rest.now).0 read.answer).1 in
+    let plan = contents c.in_ok-plan.plan in
+    let read = c.in_ok-plan.ensures in
+    let limits : Limits m plan = ((read.law plan c.in_ok-plan.rest.now).0 read.answer).1 in
     record {
       tasks = limits.few_tasks;
       objects = limits.few_objects;
@@ -23,7 +23,7 @@ of-chart-requires g c =
 pub returns : goal.returns
 returns g c =
     let m = g.R.LockRule.meaning c.args.rule in
-    let plan = contents c.in-ok-plan.plan in
-    let read = c.in-ok-plan.ensures in
-    let limits : Limits m plan = ((read.law plan c.in-ok-plan.rest.now).0 read.answer).1 in
+    let plan = contents c.in_ok-plan.plan in
+    let read = c.in_ok-plan.ensures in
+    let limits : Limits m plan = ((read.law plan c.in_ok-plan.rest.now).0 read.answer).1 in
     record { answer = rw c.of-chart.ensures read.answer; rule = refl; limits = rw c.of-chart.ensures limits }

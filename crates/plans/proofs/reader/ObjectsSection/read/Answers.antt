@@ -17,5 +17,5 @@ fits_after z bytes n e = fits z (drop n bytes) (rw (take_rest bytes n) at e)
 pub returns : goal.returns
 returns c =
     let bytes = c.args.bytes.now in
-    rw (fits _ bytes c.value-in.ensures, fits_after _ bytes 4 c.value-in-2.ensures, fits_after _ bytes 8 c.value-in-3.ensures, fits_after _ bytes 12 c.value-in-4.ensures, take_rest bytes 16)
+    rw (fits _ bytes c.value_in.ensures, fits_after _ bytes 4 c.value_in-2.ensures, fits_after _ bytes 8 c.value_in-3.ensures, fits_after _ bytes 12 c.value_in-4.ensures, take_rest bytes 16)
     (object_read bytes c.if-bytes-lt16.false)

@@ -9,4 +9,4 @@ pub returns-then-place-ge16 : goal.returns-then-place-ge16
 returns-then-place-ge16 c = nobody_runs c.args.self.now.tasks c.args.self.now.whole (count_trailing_zeros 16 c.served.result) (ap (count_trailing_zeros 16) c.served.ensures) c.if-place-ge16.true (running c.args.self.now.tasks) refl
 
 pub returns : goal.returns
-returns c = ap Some c.named-by.ensures ∙ named_runs c.args.self.now.tasks c.args.self.now.whole (count_trailing_zeros 16 c.served.result) (ap (count_trailing_zeros 16) c.served.ensures) c.if-place-ge16.false (running c.args.self.now.tasks) refl
+returns c = ap Some c.named_by.ensures ∙ named_runs c.args.self.now.tasks c.args.self.now.whole (count_trailing_zeros 16 c.served.result) (ap (count_trailing_zeros 16) c.served.ensures) c.if-place-ge16.false (running c.args.self.now.tasks) refl

@@ -2,11 +2,11 @@
 use Rattle.std.proofs.Common.{refl}
 use Rattle.stacks.proofs.stack.Stack.remove_of.Goals as goal
 
-pub slice-bounds-keep-others-end : goal.slice-bounds-keep-others-end
-slice-bounds-keep-others-end g c = refl
+pub slice_bounds-keep_others-end : goal.slice_bounds-keep_others-end
+slice_bounds-keep_others-end g c = refl
 
-pub keep-others-self-requires : goal.keep-others-self-requires
-keep-others-self-requires g c κs = λ h. h
+pub keep_others-self-requires : goal.keep_others-self-requires
+keep_others-self-requires g c κs = λ h. h
 
 pub returns : goal.returns
-returns g c = record { items = c.keep-others-self.ensures; room = c.keep-others-self.auto.slots }
+returns g c = record { items = c.keep_others-self.ensures; room = c.keep_others-self.auto.slots }
