@@ -11,4 +11,4 @@ returns-in-len1-up c =
     let input = c.args.input.now in
     let long : 1 ≤ length input = omega (arith, ltb-true, ltb-false) in
     let some : eqb (length input) 0 ≡ false = ne_eqb _ _ (λ none. omega (arith, none)) in
-    IfOk-weaker c.report-by-number.result _ (λ s. Told input (string_bytes s)) (λ s told. rw some (rw (take_rest input 1) at told)) c.report-by-number.ensures
+    IfOk-weaker c.report_by_number.result _ (λ s. Told input (string_bytes s)) (λ s told. rw some (rw (take_rest input 1) at told)) c.report_by_number.ensures

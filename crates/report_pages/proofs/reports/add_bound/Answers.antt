@@ -12,8 +12,8 @@ use Rattle.report_pages.proofs.Known.{bound_known, reason_there}
 use Rattle.pages.proofs.Adding.{adds_then}
 use Rattle.report_pages.proofs.reports.add_bound.Goals as goal
 
-pub add-bound-reason-requires : goal.add-bound-reason-requires
-add-bound-reason-requires g c =
+pub add_bound_reason-requires : goal.add_bound_reason-requires
+add_bound_reason-requires g c =
     reason_there (g.R.LockRule.meaning c.args.rule.now) (contents c.args.plan.now) c.args.task c.in-Ok.bound.value c.in-Ok.bound.reason c.requires.limits c.in-Ok.ensures.law
 
 pub returns-in-Ok : goal.returns-in-Ok
@@ -22,6 +22,6 @@ returns-in-Ok g c =
     let plan = contents c.args.plan.now in
     let task = c.args.task in
     let is = bound_known m plan task c.in-Ok.bound c.requires.task c.in-Ok.ensures.answer in
-    subst (λ (rows : List Row). Added c.args.page.now (column 4 task ++ (column 6 (get_or rows task no_row).period ++ (column 6 (get_or rows task no_row).budget ++ (column 5 (bound m plan task) ++ bound_because m plan.uses (bound_reason m plan task))))) c.add-bound-reason.new.page) c.rows.ensures
-    (subst (λ (x : Bound). Added c.args.page.now (column 4 task ++ (column 6 (get_or c.rows.result.now task no_row).period ++ (column 6 (get_or c.rows.result.now task no_row).budget ++ (column 5 x.value ++ bound_because m plan.uses x.reason)))) c.add-bound-reason.new.page) is
-    (adds_then c.add-column.ensures (adds_then c.add-column-in-Ok.ensures (adds_then c.add-column-in-Ok-2.ensures (adds_then c.add-column-in-Ok-3.ensures c.add-bound-reason.ensures)))))
+    subst (λ (rows : List Row). Added c.args.page.now (column 4 task ++ (column 6 (get_or rows task no_row).period ++ (column 6 (get_or rows task no_row).budget ++ (column 5 (bound m plan task) ++ bound_because m plan.uses (bound_reason m plan task))))) c.add_bound_reason.new.page) c.rows.ensures
+    (subst (λ (x : Bound). Added c.args.page.now (column 4 task ++ (column 6 (get_or c.rows.result.now task no_row).period ++ (column 6 (get_or c.rows.result.now task no_row).budget ++ (column 5 x.value ++ bound_because m plan.uses x.reason)))) c.add_bound_reason.new.page) is
+    (adds_then c.add_column.ensures (adds_then c.add_column-in-Ok.ensures (adds_then c.add_column-in-Ok-2.ensures (adds_then c.add_column-in-Ok-3.ensures c.add_bound_reason.ensures)))))

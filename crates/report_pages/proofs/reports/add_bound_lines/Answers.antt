@@ -9,7 +9,7 @@ pub loop-task-init : goal.loop-task-init
 loop-task-init g c = adds_none c.args.page.now
 
 pub loop-task-preserved : goal.loop-task-preserved
-loop-task-preserved g c = adds_line (bound_line (g.R.LockRule.meaning c.args.rule.now) (contents c.args.plan.now)) c.loop-task.task c.loop-task.invariant c.add-bound.ensures
+loop-task-preserved g c = adds_line (bound_line (g.R.LockRule.meaning c.args.rule.now) (contents c.args.plan.now)) c.loop-task.task c.loop-task.invariant c.add_bound.ensures
 
 pub returns : goal.returns
 returns g c =

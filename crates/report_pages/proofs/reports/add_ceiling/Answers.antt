@@ -14,5 +14,5 @@ returns-in-Ok g c =
     let m = g.R.LockRule.meaning c.args.rule.now in
     let plan = contents c.args.plan.now in
     let is = ceiling_known m plan c.args.object c.args.mode c.in-Ok.ceiling c.requires.object c.requires.mode c.in-Ok.ensures.answer in
-    subst (λ (x : Ceiling). Added c.args.page.now (column 6 c.args.object ++ (column 4 c.args.mode ++ (column 7 x.value ++ ceiling_because x.reason))) c.add-ceiling-reason.new.page) is
-    (adds_then c.add-column.ensures (adds_then c.add-column-in-Ok.ensures (adds_then c.add-column-in-Ok-2.ensures c.add-ceiling-reason.ensures)))
+    subst (λ (x : Ceiling). Added c.args.page.now (column 6 c.args.object ++ (column 4 c.args.mode ++ (column 7 x.value ++ ceiling_because x.reason))) c.add_ceiling_reason.new.page) is
+    (adds_then c.add_column.ensures (adds_then c.add_column-in-Ok.ensures (adds_then c.add_column-in-Ok-2.ensures c.add_ceiling_reason.ensures)))

@@ -13,7 +13,7 @@ pub loop-object-preserved : goal.loop-object-preserved
 loop-object-preserved g c =
     let m = g.R.LockRule.meaning c.args.rule.now in
     let plan = contents c.args.plan.now in
-    adds_line (λ object. numbered_lines m.modes (ceiling_line m plan.uses object)) c.loop-object.object c.loop-object.invariant c.add-ceilings-of.ensures
+    adds_line (λ object. numbered_lines m.modes (ceiling_line m plan.uses object)) c.loop-object.object c.loop-object.invariant c.add_ceilings_of.ensures
 
 pub returns : goal.returns
 returns g c =

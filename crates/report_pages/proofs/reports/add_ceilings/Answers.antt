@@ -3,4 +3,4 @@ use Rattle.pages.proofs.Adding.{adds_then}
 use Rattle.report_pages.proofs.reports.add_ceilings.Goals as goal
 
 pub returns : goal.returns
-returns g c = adds_then c.add.ensures c.add-ceiling-lines.ensures
+returns g c = adds_then c.add.ensures c.add_ceiling_lines.ensures

@@ -9,7 +9,7 @@ pub loop-mode-init : goal.loop-mode-init
 loop-mode-init g c = adds_none c.args.page.now
 
 pub loop-mode-preserved : goal.loop-mode-preserved
-loop-mode-preserved g c = adds_line (ceiling_line (g.R.LockRule.meaning c.args.rule.now) (contents c.args.plan.now).uses c.args.object) c.loop-mode.mode c.loop-mode.invariant c.add-ceiling.ensures
+loop-mode-preserved g c = adds_line (ceiling_line (g.R.LockRule.meaning c.args.rule.now) (contents c.args.plan.now).uses c.args.object) c.loop-mode.mode c.loop-mode.invariant c.add_ceiling.ensures
 
 pub returns : goal.returns
 returns g c = adds_all (ceiling_line (g.R.LockRule.meaning c.args.rule.now) (contents c.args.plan.now).uses c.args.object) _ c.loop-mode.mode (omega (arith, c.loop-mode-test.false, c.loop-mode.auto.mode-end, c.modes-mode-end.ensures)) c.loop-mode.invariant

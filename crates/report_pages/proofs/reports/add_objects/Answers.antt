@@ -3,4 +3,4 @@ use Rattle.pages.proofs.Adding.{adds_then}
 use Rattle.report_pages.proofs.reports.add_objects.Goals as goal
 
 pub returns : goal.returns
-returns c = adds_then c.add.ensures c.add-object-lines.ensures
+returns c = adds_then c.add.ensures c.add_object_lines.ensures

@@ -8,5 +8,5 @@ use Rattle.report_pages.proofs.reports.add_plan.Goals as goal
 
 pub returns : goal.returns
 returns g c =
-    let objects = subst (λ (objects : List Object). Added c.add-3.new.self (objects_text objects) c.add-objects.new.page) c.objects.ensures c.add-objects.ensures in
-    adds_then c.add.ensures (adds_then c.add-2.ensures (adds_then c.add-3.ensures (adds_then objects (adds_then c.add-ceilings.ensures c.add-bounds.ensures))))
+    let objects = subst (λ (objects : List Object). Added c.add-3.new.self (objects_text objects) c.add_objects.new.page) c.objects.ensures c.add_objects.ensures in
+    adds_then c.add.ensures (adds_then c.add-2.ensures (adds_then c.add-3.ensures (adds_then objects (adds_then c.add_ceilings.ensures c.add_bounds.ensures))))

@@ -11,4 +11,4 @@ returns-in-len1-up c =
     let input = c.args.input.now in
     let long : 1 ≤ length input = omega (arith, ltb-true, ltb-false) in
     let some : eqb (length input) 0 ≡ false = ne_eqb _ _ (λ none. omega (arith, none)) in
-    rw some (subst (λ (bytes : List ℕ). Added c.args.page.now (text_under (get_or input 0 0) bytes) c.add-by-number.new.page) (take_rest input 1) c.add-by-number.ensures)
+    rw some (subst (λ (bytes : List ℕ). Added c.args.page.now (text_under (get_or input 0 0) bytes) c.add_by_number.new.page) (take_rest input 1) c.add_by_number.ensures)

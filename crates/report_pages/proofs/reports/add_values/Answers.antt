@@ -11,5 +11,5 @@ returns c =
     let fit_1 : to_z w32 (of_z w32 (start_value o 1)) ≡ start_value o 1 = search rules in
     let fit_2 : to_z w32 (of_z w32 (start_value o 2)) ≡ start_value o 2 = search rules in
     let fit_3 : to_z w32 (of_z w32 (start_value o 3)) ≡ start_value o 3 = search rules in
-    adds_then (rw fit_0 at c.add-number.ensures) (adds_then c.add.ensures (adds_then (rw fit_1 at c.add-number-2.ensures) (adds_then c.add-2.ensures
-    (adds_then (rw fit_2 at c.add-number-3.ensures) (adds_then c.add-3.ensures (rw fit_3 at c.add-number-4.ensures))))))
+    adds_then (rw fit_0 at c.add_number.ensures) (adds_then c.add.ensures (adds_then (rw fit_1 at c.add_number-2.ensures) (adds_then c.add-2.ensures
+    (adds_then (rw fit_2 at c.add_number-3.ensures) (adds_then c.add-3.ensures (rw fit_3 at c.add_number-4.ensures))))))

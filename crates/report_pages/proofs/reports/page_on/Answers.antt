@@ -8,4 +8,4 @@ use Rattle.report_pages.proofs.reports.page_on.Goals as goal
 pub returns : goal.returns
 returns c =
     let input = c.args.input.now in
-    c.add-report.ensures.says ∙ ap (λ text. take 8192 (text ++ report_text input)) c.empty-page.ensures ∙ take_all 8192 (report_text input) (report_fits input (λ i. (c.type-inv.input i).fits))
+    c.add_report.ensures.says ∙ ap (λ text. take 8192 (text ++ report_text input)) c.empty-page.ensures ∙ take_all 8192 (report_text input) (report_fits input (λ i. (c.type_inv.input i).fits))

@@ -1,5 +1,5 @@
 -- A digit less each time.
 use Rattle.sheets.proofs.sheet.+put_digits.Given as goal
 
-abbrev pub decreases-put-digits : goal.decreases-put-digits
-decreases-put-digits l = l.magnitude
+abbrev pub decreases-put_digits : goal.decreases-put_digits
+decreases-put_digits l = l.magnitude

@@ -5,7 +5,7 @@ use Rattle.std.proofs.lemmas.Bool.{ltb-true, ltb-false}
 use Rattle.tape.specs.Numbers.{is_digit}
 use Rattle.tape.proofs.Digits.{a_digit, none_at_end, none_below, none_above, digits_more, digits_stop}
 use Rattle.tape.proofs.numbers.read_digits.Goals as goal
-use Rattle.tape.proofs.numbers.read_digits.Goals.{in-default, in-default·2, in-default·3}
+use Rattle.tape.proofs.numbers.read_digits.Goals.{in_default, in_default-2, in_default-3}
 
 pub loop-rest-preserved : goal.loop-rest-preserved
 loop-rest-preserved c =
@@ -20,8 +20,8 @@ pub returns : goal.returns
 returns c =
     let rest = c.loop-rest.rest.now in
     let none : is_digit (get_or rest 0 0) ≡ false = elim c.if-rest-lt1.branch [
-      | in-default w ↦ none_at_end rest (omega (arith, ltb-true, ltb-false))
-      | in-default·2 w ↦ none_below (get_or rest 0 0) (omega (arith, ltb-true, ltb-false))
-      | in-default·3 w ↦ none_above (get_or rest 0 0) (omega (arith, ltb-true, ltb-false))
+      | in_default w ↦ none_at_end rest (omega (arith, ltb-true, ltb-false))
+      | in_default-2 w ↦ none_below (get_or rest 0 0) (omega (arith, ltb-true, ltb-false))
+      | in_default-3 w ↦ none_above (get_or rest 0 0) (omega (arith, ltb-true, ltb-false))
     ] in
     record { number = sym c.loop-rest.invariant.0 ∙ digits_stop c.args.most c.loop-rest.number rest none; within = c.loop-rest.invariant.1 }

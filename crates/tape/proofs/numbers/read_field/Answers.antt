@@ -4,14 +4,14 @@ use Rattle.std.proofs.lemmas.List.{take_rest}
 use Rattle.std.proofs.lemmas.Bool.{ltb-true, ltb-false, eq-eqb}
 use Rattle.tape.proofs.numbers.read_field.Goals as goal
 
-pub returns-in-err-number : goal.returns-in-err-number
-returns-in-err-number c =
+pub returns-in_err-number : goal.returns-in_err-number
+returns-in_err-number c =
     let bytes = c.args.bytes.now in
     let space : get_or bytes 0 0 ≡ 32 = omega (arith, ltb-true, ltb-false) in
-    rw (c.from-residual.ensures, eq-eqb (get_or bytes 0 0) 32 space) (rw (take_rest bytes 1) at c.in-err-number.ensures.number)
+    rw (c.from_residual.ensures, eq-eqb (get_or bytes 0 0) 32 space) (rw (take_rest bytes 1) at c.in_err-number.ensures.number)
 
 pub returns : goal.returns
 returns c =
     let bytes = c.args.bytes.now in
     let space : get_or bytes 0 0 ≡ 32 = omega (arith, ltb-true, ltb-false) in
-    rw (eq-eqb (get_or bytes 0 0) 32 space) (rw (take_rest bytes 1) at c.in-ok-number.ensures.number)
+    rw (eq-eqb (get_or bytes 0 0) 32 space) (rw (take_rest bytes 1) at c.in_ok-number.ensures.number)

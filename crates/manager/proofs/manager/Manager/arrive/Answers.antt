@@ -2,9 +2,9 @@
 use Rattle.std.proofs.Common.{refl}
 use Rattle.manager.proofs.manager.Manager.arrive.Goals as goal
 
-pub returns-then-not-has-task : goal.returns-then-not-has-task
-returns-then-not-has-task g c = record {
-  answer = λ cells. rw (← c.if-not-has-task.ensures);
-  state = λ cells. rw (← c.if-not-has-task.ensures);
+pub returns-then-not-has_task : goal.returns-then-not-has_task
+returns-then-not-has_task g c = record {
+  answer = λ cells. rw (← c.if-not-has_task.ensures);
+  state = λ cells. rw (← c.if-not-has_task.ensures);
   setup = refl;
 }

@@ -7,10 +7,10 @@ use Rattle.manager.proofs.manager.Manager.call.Goals as goal
 pub returns : goal.returns
 returns g c =
     let before = c.args.self.now in
-    let done = c.make-call.ensures in
+    let done = c.make_call.ensures in
     record {
       answer = done.answer;
       state = done.state;
       setup = done.setup;
-      laws = leads_on (g.R.LockRule.meaning before.rule) (g.met.R.LockRule.lawful before.rule) (setup_of g.R.LockRule.meaning before) refl (view before c.args.cells.now) (view c.make-call.new.self c.make-call.new.cells) c.args.call c.make-call.result done.answer done.state;
+      laws = leads_on (g.R.LockRule.meaning before.rule) (g.met.R.LockRule.lawful before.rule) (setup_of g.R.LockRule.meaning before) refl (view before c.args.cells.now) (view c.make_call.new.self c.make_call.new.cells) c.args.call c.make_call.result done.answer done.state;
     }

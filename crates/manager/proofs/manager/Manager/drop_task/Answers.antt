@@ -16,18 +16,18 @@ returns-then-cells-lt-CELLS g c =
       setup = refl;
     }
 
-pub returns-then-not-has-task : goal.returns-then-not-has-task
-returns-then-not-has-task g c =
-    let out = drop_nowhere (setup_of g.R.LockRule.meaning c.args.self.now) (view c.args.self.now c.args.cells.now) c.args.task (le-ltb (length c.args.cells.now) 128 c.if-cells-lt-CELLS.false) c.if-not-has-task.ensures in
+pub returns-then-not-has_task : goal.returns-then-not-has_task
+returns-then-not-has_task g c =
+    let out = drop_nowhere (setup_of g.R.LockRule.meaning c.args.self.now) (view c.args.self.now c.args.cells.now) c.args.task (le-ltb (length c.args.cells.now) 128 c.if-cells-lt-CELLS.false) c.if-not-has_task.ensures in
     record {
       answer = ap (λ (o : Outcome). o.answer) (sym out);
       state = ap (λ (o : Outcome). o.left) (sym out);
       setup = refl;
     }
 
-pub returns-then-not-is-running : goal.returns-then-not-is-running
-returns-then-not-is-running g c =
-    let out = drop_idle (setup_of g.R.LockRule.meaning c.args.self.now) (view c.args.self.now c.args.cells.now) c.args.task (le-ltb (length c.args.cells.now) 128 c.if-cells-lt-CELLS.false) c.if-not-has-task.ensures c.if-not-is-running.ensures in
+pub returns-then-not-is_running : goal.returns-then-not-is_running
+returns-then-not-is_running g c =
+    let out = drop_idle (setup_of g.R.LockRule.meaning c.args.self.now) (view c.args.self.now c.args.cells.now) c.args.task (le-ltb (length c.args.cells.now) 128 c.if-cells-lt-CELLS.false) c.if-not-has_task.ensures c.if-not-is_running.ensures in
     record {
       answer = ap (λ (o : Outcome). o.answer) (sym out);
       state = ap (λ (o : Outcome). o.left) (sym out);
@@ -37,9 +37,9 @@ returns-then-not-is-running g c =
 pub returns : goal.returns
 returns g c =
     let cells = c.args.cells.now in
-    let put = c.put-back-own.ensures ∙ ap (λ images. put_back (filter (own_image c.args.task) images) cells) c.as-slice.ensures in
+    let put = c.put_back_own.ensures ∙ ap (λ images. put_back (filter (own_image c.args.task) images) cells) c.as_slice.ensures in
     record {
-      answer = rw (le-ltb (length cells) 128 c.if-cells-lt-CELLS.false, ← c.if-not-has-task.ensures, ← c.if-not-is-running.ensures) (ap Dropped (c.account-account.ensures cells));
-      state = rw (le-ltb (length cells) 128 c.if-cells-lt-CELLS.false, ← c.if-not-has-task.ensures, ← c.if-not-is-running.ensures) (c.end.ensures.state cells c.put-back-own.new.cells ∙ ap (ended (view c.args.self.now cells) c.args.task) put);
+      answer = rw (le-ltb (length cells) 128 c.if-cells-lt-CELLS.false, ← c.if-not-has_task.ensures, ← c.if-not-is_running.ensures) (ap Dropped (c.account-account.ensures cells));
+      state = rw (le-ltb (length cells) 128 c.if-cells-lt-CELLS.false, ← c.if-not-has_task.ensures, ← c.if-not-is_running.ensures) (c.end.ensures.state cells c.put_back_own.new.cells ∙ ap (ended (view c.args.self.now cells) c.args.task) put);
       setup = c.end.ensures.setup;
     }

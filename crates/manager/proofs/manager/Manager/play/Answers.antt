@@ -12,11 +12,11 @@ loop-i-preserved g c =
     let s = view c.args.self.now c.args.cells.now in
     let here = view c.loop-i.self c.loop-i.cells in
     let inv = c.loop-i.invariant in
-    let done = c.make-call.ensures in
+    let done = c.make_call.ensures in
     let call = get_or c.args.calls.now c.loop-i.i (Arrive 0) in (
       done.setup ∙ inv.0,
       done.state ∙ ap (λ u. (step u here call).left) inv.0 ∙ final_more setup s here c.args.calls.now c.loop-i.i (Arrive 0) (omega arith) inv.1,
-      answers_more setup s here c.args.calls.now c.loop-i.i (Arrive 0) (omega arith) inv.1 c.args.answers.now c.loop-i.answers (omega arith) inv.2 c.make-call.result (done.answer ∙ ap (λ u. (step u here call).answer) inv.0),
+      answers_more setup s here c.args.calls.now c.loop-i.i (Arrive 0) (omega arith) inv.1 c.args.answers.now c.loop-i.answers (omega arith) inv.2 c.make_call.result (done.answer ∙ ap (λ u. (step u here call).answer) inv.0),
     )
 
 pub returns : goal.returns

@@ -12,11 +12,11 @@ returns-in-Err g c = record {
   setup = refl;
 }
 
-pub returns-then-not-may-write : goal.returns-then-not-may-write
-returns-then-not-may-write g c =
+pub returns-then-not-may_write : goal.returns-then-not-may_write
+returns-then-not-may_write g c =
     let setup = setup_of g.R.LockRule.meaning c.args.self.now in
     let s = view c.args.self.now c.args.cells.now in
-    let may = c.if-not-may-write.ensures ∙ ap (any (covers (λ mode. setup.rule.writes mode c.args.part) c.args.task c.args.object)) c.as-slice.ensures in
+    let may = c.if-not-may_write.ensures ∙ ap (any (covers (λ mode. setup.rule.writes mode c.args.part) c.args.task c.args.object)) c.as_slice.ensures in
     let out = not_covered setup s c.args.task c.args.object c.args.part c.args.value c.in-Ok.ensures.tests (sym may) in
     record {
       answer = ap (λ (o : Outcome). o.answer) (sym out);
@@ -28,7 +28,7 @@ pub returns-then-not-push : goal.returns-then-not-push
 returns-then-not-push g c =
     let setup = setup_of g.R.LockRule.meaning c.args.self.now in
     let s = view c.args.self.now c.args.cells.now in
-    let may = c.if-not-may-write.ensures ∙ ap (any (covers (λ mode. setup.rule.writes mode c.args.part) c.args.task c.args.object)) c.as-slice.ensures in
+    let may = c.if-not-may_write.ensures ∙ ap (any (covers (λ mode. setup.rule.writes mode c.args.part) c.args.task c.args.object)) c.as_slice.ensures in
     let done = c.if-not-push.ensures in
     let out = journal_full setup s c.args.task c.args.object c.args.part c.args.value c.in-Ok.ensures.tests (sym may) (sym done.taken) in
     record {
@@ -41,7 +41,7 @@ pub returns : goal.returns
 returns g c =
     let setup = setup_of g.R.LockRule.meaning c.args.self.now in
     let s = view c.args.self.now c.args.cells.now in
-    let may = c.if-not-may-write.ensures ∙ ap (any (covers (λ mode. setup.rule.writes mode c.args.part) c.args.task c.args.object)) c.as-slice.ensures in
+    let may = c.if-not-may_write.ensures ∙ ap (any (covers (λ mode. setup.rule.writes mode c.args.part) c.args.task c.args.object)) c.as_slice.ensures in
     let done = c.if-not-push.ensures in
     let held : to_z w32 (of_z w32 (get_or c.args.cells.now c.in-Ok.cell (pos 0))) ≡ get_or c.args.cells.now c.in-Ok.cell (pos 0) = search rules in
     let fit : to_z w32 (of_z w32 c.args.value) ≡ c.args.value = search rules in

@@ -7,4 +7,4 @@ use Rattle.pages.proofs.Adding.{padded_none}
 use Rattle.pages.proofs.page.Page.add_number.Goals as goal
 
 pub returns : goal.returns
-returns c = subst (λ text. Added c.args.self.now text c.add-padded.new.self) (padded_none (signed_decimal c.args.number)) (rw (to_z-of_z w32 c.args.number c.ranges.number) at c.add-padded.ensures)
+returns c = subst (λ text. Added c.args.self.now text c.add_padded.new.self) (padded_none (signed_decimal c.args.number)) (rw (to_z-of_z w32 c.args.number c.ranges.number) at c.add_padded.ensures)

@@ -18,7 +18,7 @@ returns c =
     let place = c.args.self.now.place in
     let inside : place < length bytes = omega arith in
     let ends = ap (λ n. place + n) (rw (take_rest bytes place) at c.line_length.ensures.line) in
-    let item = ap (λ x. x ∷ entries c.if-end-bytes.self (lines (drop c.if-end-bytes.self bytes))) c.item-of.ensures in
+    let item = ap (λ x. x ∷ entries c.if-end-bytes.self (lines (drop c.if-end-bytes.self bytes))) c.item_of.ensures in
     let less : length bytes - c.if-end-bytes.self < length bytes - place =
     elim c.if-end-bytes.branch [ then-end-bytes w ↦ omega (arith, w.self-is) | else-end-bytes w ↦ omega (arith, w.self-is) ] in
     record {
