@@ -10,8 +10,8 @@ pub loop-byte-preserved : goal.loop-byte-preserved
 loop-byte-preserved c =
     let here = at_drop_more (count_from c.loop-byte.begins) c.args.tape.now c.loop-byte.byte-index 0 c.loop-byte-test.true in
     elim c.if-begins.branch [
-      | then-begins w ↦ (omega (arith, here, cond-true {A = ℕ} c.loop-byte.begins 1 0 w.if-begins.true, w.count_is, c.loop-byte.invariant.0), omega (arith, w.count_is, c.loop-byte.invariant.1))
-      | else-begins w ↦ (omega (arith, here, cond-false {A = ℕ} c.loop-byte.begins 1 0 w.if-begins.false, w.count_is, c.loop-byte.invariant.0), omega (arith, w.count_is, c.loop-byte.invariant.1))
+      | then-begins w ↦ (omega (arith, here, cond-true {A = ℕ} c.loop-byte.begins 1 0 w.if-begins.true, w.count-is, c.loop-byte.invariant.0), omega (arith, w.count-is, c.loop-byte.invariant.1))
+      | else-begins w ↦ (omega (arith, here, cond-false {A = ℕ} c.loop-byte.begins 1 0 w.if-begins.false, w.count-is, c.loop-byte.invariant.0), omega (arith, w.count-is, c.loop-byte.invariant.1))
     ]
 
 pub returns : goal.returns

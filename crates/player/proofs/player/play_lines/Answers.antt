@@ -13,42 +13,42 @@ use Rattle.player.proofs.player.play_lines.Goals as goal
 
 pub loop-item-init : goal.loop-item-init
 loop-item-init g c =
-    let size = ap length (ap to_come c.into-iter-item-iterator.ensures.into-iter-gives ∙ c.new-item-items.ensures.entries) ∙ length_entries 0 (lines c.args.tape.now) in
-    (refl, fill_none _ c.args.sheet.now _ (to_come c.into-iter-item-iterator.result) (omega (arith, c.requires, size)), refl, (tt, tt))
+    let size = ap length (ap to_come c.into_iter-item-iterator.ensures.into_iter_gives ∙ c.new-item-items.ensures.entries) ∙ length_entries 0 (lines c.args.tape.now) in
+    (refl, fill_none _ c.args.sheet.now _ (to_come c.into_iter-item-iterator.result) (omega (arith, c.requires, size)), refl, (tt, tt))
 
 pub loop-item-preserved : goal.loop-item-preserved
 loop-item-preserved g c =
     let setup = setup_of g.R.LockRule.meaning c.args.manager.now in
     let s = view c.loop-item.manager c.loop-item.cells in
     let item = entry c.in-Some.item in
-    let all = play_sheet setup (view c.args.manager.now c.args.cells.now) (to_come c.into-iter-item-iterator.result) in
+    let all = play_sheet setup (view c.args.manager.now c.args.cells.now) (to_come c.into_iter-item-iterator.result) in
     let same = c.loop-item.invariant.0 in
     let given = c.in-Some.ensures.steps in
     let so_far = subst (λ (es : List Entry). Filling setup c.args.sheet.now c.loop-item.sheet c.loop-item.at s es all) given c.loop-item.invariant.1 in
-    let answered = subst (λ (st : Setup). c.play-item-answer.result ≡ (outcome st s item).answer) same c.play-item-answer.ensures.answer in
-    let leaves = subst (λ (st : Setup). view c.play-item-answer.new.manager c.play-item-answer.new.cells ≡ (outcome st s item).left) same c.play-item-answer.ensures.state in
-    let within : Within c.play-item-answer.result = search rules in
+    let answered = subst (λ (st : Setup). c.play_item-answer.result ≡ (outcome st s item).answer) same c.play_item-answer.ensures.answer in
+    let leaves = subst (λ (st : Setup). view c.play_item-answer.new.manager c.play_item-answer.new.cells ≡ (outcome st s item).left) same c.play_item-answer.ensures.state in
+    let within : Within c.play_item-answer.result = search rules in
     let task : TaskWithin c.running.result = search rules in
-    let written = c.in-ok-at.ensures in (
-      c.play-item-answer.ensures.setup ∙ same,
-      fill_more setup c.args.sheet.now c.loop-item.sheet _ c.loop-item.at _ s _ item _ all _ _ so_far answered leaves c.running.ensures (written.law.short _ _ within task) written.line c.write-line.auto.sheet,
+    let written = c.in_ok-at.ensures in (
+      c.play_item-answer.ensures.setup ∙ same,
+      fill_more setup c.args.sheet.now c.loop-item.sheet _ c.loop-item.at _ s _ item _ all _ _ so_far answered leaves c.running.ensures (written.law.short _ _ within task) written.line c.write_line.auto.sheet,
       ap (λ (t : State). play_state setup t (to_come c.next.new.self)) leaves ∙ ap (play_state setup s) (sym given) ∙ c.loop-item.invariant.2,
       (tt, tt),
     )
 
 -- there is room for every line
-pub returns-in-err-at : goal.returns-in-err-at
-returns-in-err-at g c =
-    absurd (omega (arith, leb-false _ _ (sym c.in-err-at.ensures.room), c.loop-item.invariant.1.room, ap length c.in-Some.ensures.steps))
+pub returns-in_err-at : goal.returns-in_err-at
+returns-in_err-at g c =
+    absurd (omega (arith, leb-false _ _ (sym c.in_err-at.ensures.room), c.loop-item.invariant.1.room, ap length c.in-Some.ensures.steps))
 
 pub returns : goal.returns
 returns g c =
     let setup = setup_of g.R.LockRule.meaning c.args.manager.now in
     let start = view c.args.manager.now c.args.cells.now in
     let s = view c.loop-item.manager c.loop-item.cells in
-    let all = play_sheet setup start (to_come c.into-iter-item-iterator.result) in
+    let all = play_sheet setup start (to_come c.into_iter-item-iterator.result) in
     let none = c.in-None.ensures.steps.0 in
-    let tape = ap to_come c.into-iter-item-iterator.ensures.into-iter-gives ∙ c.new-item-items.ensures.entries in
+    let tape = ap to_come c.into_iter-item-iterator.ensures.into_iter_gives ∙ c.new-item-items.ensures.entries in
     let done = subst (λ (es : List Entry). Filling setup c.args.sheet.now c.loop-item.sheet c.loop-item.at s es all) none c.loop-item.invariant.1 in
     record {
       sheet = subst (λ (es : List Entry). Put c.args.sheet.now 0 (play_sheet setup start es) c.loop-item.sheet c.loop-item.at) tape (fill_all setup c.args.sheet.now c.loop-item.sheet c.loop-item.at s all done);
