@@ -10,6 +10,6 @@ returns-in-len1-up c =
     let input = c.args.input.now in
     let long : 1 ≤ length input = omega (arith, ltb-true, ltb-false) in
     let some : eqb (length input) 0 ≡ false = ne_eqb _ _ (λ none. omega (arith, none)) in
-    let small : get_or input 0 0 < 2 ^ 63 = omega (arith, (c.type-inv.input 0).fits) in
+    let small : get_or input 0 0 < 2 ^ 63 = omega (arith, (c.type_inv.input 0).fits) in
     let number : to_z w64 (get_or input 0 0) ≡ pos (get_or input 0 0) = to_z_pos w64 (get_or input 0 0) small in
     rw some (rw (take_rest input 1, number) at c.play_numbered.ensures.sheet)
