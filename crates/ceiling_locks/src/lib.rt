@@ -1,4 +1,4 @@
-// The face for C: functions on numbers and byte slices, a refusal as minus its number. include/ceiling_locks.h declares them.
+// The face for C: functions on numbers and byte slices, a refusal as minus its number. `ceiling_locks_c` exports them, and include/ceiling_locks.h declares them.
 #![tactic(auto)]
 
 ghost use Rattle.std.specs.Prelude.{◌≡◌, length, Err};
@@ -63,8 +63,7 @@ fn bound_under<R: LockRule>(rule: &R, plan: &[u8], task: i64) -> Result<u32, Ref
 }
 
 // 0 where the plan is accepted under the rule with this number.
-#[unsafe(no_mangle)]
-pub extern "C" fn check(rule: i64, plan: &[u8]) -> i64
+pub fn check(rule: i64, plan: &[u8]) -> i64
     ensures { result ≡ in_numbers (under rule (check_under plan.now)) }
 {
     in_numbers(match rule {
@@ -75,8 +74,7 @@ pub extern "C" fn check(rule: i64, plan: &[u8]) -> i64
 }
 
 // The ceiling of an object that is locked in a mode.
-#[unsafe(no_mangle)]
-pub extern "C" fn ceiling(rule: i64, plan: &[u8], object: i64, mode: i64) -> i64
+pub fn ceiling(rule: i64, plan: &[u8], object: i64, mode: i64) -> i64
     ensures { result ≡ in_numbers (under rule (ceiling_under plan.now object mode)) }
 {
     in_numbers(match rule {
@@ -87,8 +85,7 @@ pub extern "C" fn ceiling(rule: i64, plan: &[u8], object: i64, mode: i64) -> i64
 }
 
 // The bound of a task.
-#[unsafe(no_mangle)]
-pub extern "C" fn bound(rule: i64, plan: &[u8], task: i64) -> i64
+pub fn bound(rule: i64, plan: &[u8], task: i64) -> i64
     ensures { result ≡ in_numbers (under rule (bound_under plan.now task)) }
 {
     in_numbers(match rule {
@@ -99,8 +96,7 @@ pub extern "C" fn bound(rule: i64, plan: &[u8], task: i64) -> i64
 }
 
 // Plays the tape behind the plan onto the sheet, and answers how many bytes it wrote.
-#[unsafe(no_mangle)]
-pub extern "C" fn play(rule: i64, input: &[u8], sheet: &mut [u8]) -> i64
+pub fn play(rule: i64, input: &[u8], sheet: &mut [u8]) -> i64
     ensures sheet { PlaysInNumbers (play_numbered rule input.now (length sheet.old)) sheet.old sheet.new result }
     ensures laws { NumberedLaws rule input.now }
 {

@@ -8,10 +8,10 @@ use Rattle.ceiling_locks.proofs.play.Goals as goal
 
 -- where the play was accepted
 small : (c : goal.In-Ok) → c.in-Ok.written < 2 ^ 63
-small c = let most = within_sheet _ c.args.sheet.now c.play_numbered.new.sheet c.in-Ok.written c.play_numbered.auto.sheet c.in-Ok.ensures.sheet in omega (arith, most, c.well-formed)
+small c = let most = within_sheet _ c.args.sheet.now c.play_numbered.new.sheet c.in-Ok.written c.play_numbered.auto.sheet c.in-Ok.ensures.sheet in omega (arith, most, c.well_formed)
 
-pub overflow-cast-result : goal.overflow-cast-result
-overflow-cast-result c = record { sfits = small c }
+pub overflow_cast-result : goal.overflow_cast-result
+overflow_cast-result c = record { sfits = small c }
 
 pub returns-in-Ok : goal.returns-in-Ok
 returns-in-Ok c =
