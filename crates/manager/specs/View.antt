@@ -8,7 +8,6 @@ use Rattle.plans.specs.declared.refusal.Refusal.TheVariants.{FewCells}
 use Rattle.protocol.specs.Machine.{Setup, State}
 use Rattle.protocol.specs.declared.words.Answer.{Answer}
 use Rattle.protocol.specs.declared.words.Account.{Account}
-use Rattle.protocol.specs.declared.words.Answer.TheVariants as Answer
 use Rattle.protocol.specs.declared.words.Answer.TheVariants.{Open, Value, Written, Closed, Dropped, Refused}
 use Rattle.stacks.specs.Stacks.{items, room}
 use Rattle.manager.specs.declared.manager.Manager.{Manager}

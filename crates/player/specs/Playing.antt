@@ -1,5 +1,5 @@
 -- Playing a tape from a plan's bytes: the sheet that it fills, and the line of calls that it makes. Assumes nothing.
-use Rattle.std.specs.Prelude.{◌≡◌, ℕ, ◌+◌, ◌*◌, cond, List, [], ◌∷◌, ◌++◌, length, take, replicate, pos, Ok, Err, Result, nat_lt}
+use Rattle.std.specs.Prelude.{◌≡◌, ℕ, ◌*◌, cond, List, [], ◌∷◌, ◌++◌, length, take, replicate, pos, Ok, Err, Result, nat_lt}
 use Rattle.rules.specs.Meaning.{Meaning}
 use Rattle.plans.specs.Contents.{Contents}
 use Rattle.plans.specs.Reading.{Read, read_plan}

@@ -17,7 +17,7 @@ use Rattle.protocol.specs.Lines.{Event, ends, told_to_wait, is_below, runner}
 use Rattle.protocol.proofs.Lists.{has_none, has_cases}
 use Rattle.protocol.proofs.Places.{Runs, runs, rest_not_wait, ready_not_wait}
 use Rattle.protocol.proofs.Invariant.{Sound, Blocker, Move, lower_runs, one_blocker, stays_other}
-use Rattle.protocol.proofs.Outcomes.{Kind, Planned, Blocks}
+use Rattle.protocol.proofs.Outcomes.{Kind, Blocks}
 use Rattle.protocol.proofs.Moves.{changed_same, ready_there}
 use Rattle.protocol.proofs.Reached.{Kept}
 use Rattle.protocol.proofs.Stretches.{Busy}

@@ -3,7 +3,7 @@ use Rattle.std.proofs.Common.{◌≡◌, ◌≤◌, false, eqb, length, string_b
 use Rattle.std.proofs.lemmas.List.{take_rest}
 use Rattle.std.proofs.lemmas.Result.{IfOk-weaker}
 use Rattle.std.proofs.lemmas.Bool.{ltb-true, ltb-false, ne_eqb}
-use Rattle.reports.specs.Lines.{Told, ToldUnder}
+use Rattle.reports.specs.Lines.{Told}
 use Rattle.reports.proofs.report_on.Goals as goal
 
 pub returns-in-len1-up : goal.returns-in-len1-up

@@ -1,5 +1,5 @@
 -- A use that delays may raise the greatest; any other leaves it.
-use Rattle.std.proofs.Common.{◌≡◌, sym, ◌∙◌, arith}
+use Rattle.std.proofs.Common.{sym, ◌∙◌, arith}
 use Rattle.std.proofs.lemmas.List.{at_drop_all}
 use Rattle.plans.specs.Ceilings.{bound_over}
 use Rattle.plans.specs.Plans.{contents}

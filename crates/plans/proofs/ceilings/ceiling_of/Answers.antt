@@ -1,5 +1,5 @@
 -- An excluded use may lower the least; any other leaves it.
-use Rattle.std.proofs.Common.{◌≡◌, sym, ap, ◌∙◌, arith}
+use Rattle.std.proofs.Common.{sym, ◌∙◌, arith}
 use Rattle.std.proofs.lemmas.List.{at_drop_all}
 use Rattle.plans.specs.Ceilings.{ceiling}
 use Rattle.plans.proofs.Reasons.{ceiling_le, ceiling_more, ceiling_skip}

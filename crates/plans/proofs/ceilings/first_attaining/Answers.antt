@@ -1,5 +1,5 @@
 -- One step of the look for the first use that passes.
-use Rattle.std.proofs.Common.{◌≡◌, true, false, sym, ◌∙◌}
+use Rattle.std.proofs.Common.{true, false, sym, ◌∙◌}
 use Rattle.std.proofs.lemmas.List.{at_drop_all}
 use Rattle.plans.specs.Ceilings.{first, attains}
 use Rattle.plans.proofs.Reasons.{first_more}

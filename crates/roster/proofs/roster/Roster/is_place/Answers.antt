@@ -1,6 +1,6 @@
 -- The task that the number names is the only one whose place it can be.
 use Rattle.std.proofs.Common.{ap, ◌∙◌}
-use Rattle.protocol.specs.Tasks.{is_ready, place}
+use Rattle.protocol.specs.Tasks.{is_ready}
 use Rattle.roster.proofs.ServedTasks.{place_of_found}
 use Rattle.roster.proofs.roster.Roster.is_place.Goals as goal
 

@@ -1,7 +1,7 @@
 -- One line is taken off.
 use Rattle.std.proofs.Common.{◌+◌, ◌-◌, ◌<◌, ◌∷◌, length, drop, sym, refl, ap, ◌∙◌, arith, rules}
 use Rattle.std.proofs.lemmas.List.{take_rest, drop_all}
-use Rattle.tape.specs.Tapes.{entries, lines, line_length}
+use Rattle.tape.specs.Tapes.{entries, lines}
 use Rattle.tape.proofs.Splits.{step_inside, step_last}
 use Rattle.tape.proofs.items.TapeIterator.next.Goals as goal
 use Rattle.tape.proofs.items.TapeIterator.next.Goals.{then-end-bytes, else-end-bytes}
