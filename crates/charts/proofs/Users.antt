@@ -1,6 +1,6 @@
 -- The highest users, and ceilings by way of them. Assumes nothing.
 use Rattle.std.proofs.Common.{◌≡◌, ℕ, zero, suc, ◌+◌, ◌-◌, ◌<◌, ◌≤◌, min, true, false, cond, ◌&&◌, eqb, List, [], ◌∷◌, length, get_or, drop, sym, refl, ap, ◌∙◌, inl, inr, ⊎_elim, add-one, arith}
-use Rattle.std.specs.List.{AllByRecursion as All}
+use Rattle.std.specs.List.{AllByRecursion}
 use Rattle.std.proofs.lemmas.List.{at_drop_more}
 use Rattle.std.proofs.lemmas.Bool.{cond_both, cases_Bool, cases_eq, cases_lt, eq-eqb, ne_eqb, eqb-true, and_left, and_parts, and_from, both_ways}
 use Rattle.rules.specs.Meaning.{Meaning, Lawful}
@@ -19,7 +19,7 @@ pub user_step : (us : List Use) (k object mode : ℕ) → k < length us → high
 user_step us k object mode l = at_drop_more (λ l. highest_user l object mode) us k no_use l
 
 -- no use is of an object past the last
-pub user_past : (m : Meaning) (plan : Contents) (object mode : ℕ) → length plan.objects ≤ object → (us : List Use) → All (UseLimits m plan) us → highest_user us object mode ≡ 16
+pub user_past : (m : Meaning) (plan : Contents) (object mode : ℕ) → length plan.objects ≤ object → (us : List Use) → AllByRecursion (UseLimits m plan) us → highest_user us object mode ≡ 16
 user_past m plan object mode past [] keep = refl
 user_past m plan object mode past (u ∷ us) keep =
     let other : is_of object mode u ≡ false = and_left (eqb u.object object) (eqb u.mode mode) (ne_eqb u.object object (λ e. omega (arith, keep.0.object_there))) in

@@ -1,7 +1,7 @@
 -- The readers of values, objects, rows and uses accept exactly what is written. Assumes nothing.
 use Rattle.std.proofs.Common.{◌≡◌, ℕ, ◌+◌, ◌*◌, ◌/◌, ◌%◌, ◌<◌, ◌≤◌, false, not, ltb, List, [], ◌∷◌, ◌++◌, length, get_or, drop, Ok, Decides, sym, refl, ap, ◌∙◌, ap₂, arith, w32, SFits, to_z, of_z}
 use borrow.Author.Gap.{read_sfits}
-use Rattle.std.specs.List.{ContainsAt as Has}
+use Rattle.std.specs.List.{ContainsAt}
 use Rattle.std.proofs.lemmas.List.{drop_more}
 use Rattle.std.proofs.lemmas.Int.{to_z-of_z, of_z-to_z}
 use Rattle.std.proofs.lemmas.Bool.{ltb-false, not-true, not-false}
@@ -109,10 +109,10 @@ same_use_tells : (u v : Use) → Decides (same_use u v) (u ≡ v)
 same_use_tells u v = ((λ e. let h : (u.task ≡ v.task) × (u.object ≡ v.object) × (u.mode ≡ v.mode) = grind (arith, nat_tests) in λ i. record { task = h.0 i; object = h.1 i; mode = h.2 i }), (λ e. let h = ap (λ w. w.task) e in let k = ap (λ w. w.object) e in let l = ap (λ w. w.mode) e in grind (arith, nat_tests)))
 
 -- the test is whether the list has the use
-stands_tells : (u : Use) (uses : List Use) → Decides (stands_in u uses) (Has uses u)
+stands_tells : (u : Use) (uses : List Use) → Decides (stands_in u uses) (ContainsAt uses u)
 stands_tells u uses = Decides-by_or (λ v. same_use v u) (λ v. v ≡ u) (stands_in u) (λ v. same_use_tells v u) refl (λ _ _. refl) uses
 
-pub use_exact : (m : Meaning) (plan : Contents) → Exact (read_use (length plan.rows) (length plan.objects) m.modes) use_bytes (UseLimits m plan) (λ before u. Has before u → ⊥)
+pub use_exact : (m : Meaning) (plan : Contents) → Exact (read_use (length plan.rows) (length plan.objects) m.modes) use_bytes (UseLimits m plan) (λ before u. ContainsAt before u → ⊥)
 use_exact m plan = record {
   sound = λ before bytes u rest are e.
       let long = passed (ltb (length bytes) 3) PlanEnds _ (u, rest) e in

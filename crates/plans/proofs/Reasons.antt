@@ -1,6 +1,6 @@
 -- Ceilings and bounds: one use more, and the laws that they keep. Assumes nothing.
 use Rattle.std.proofs.Common.{◌≡◌, ℕ, zero, suc, ◌+◌, ◌<◌, ◌≤◌, min, max, Bool, true, false, cond, ◌⊎◌, List, [], ◌∷◌, length, get_or, drop, Some, None, refl, ap, ◌∙◌, inl, inr, ⊎_elim, arith}
-use Rattle.std.specs.List.{ContainsAt as Has}
+use Rattle.std.specs.List.{ContainsAt}
 use Rattle.std.proofs.lemmas.List.{at_drop_more}
 use Rattle.std.proofs.lemmas.Bool.{cases_Bool, cases_lt, and_parts, and_from, eq-eqb, eqb-true, both_ways}
 use Rattle.rules.specs.Meaning.{Meaning}
@@ -10,26 +10,26 @@ use Rattle.plans.specs.declared.parts.Use.{Use}
 
 -- ---- elements of a list
 
-has_head : {X : Type 0} (x : X) (xs : List X) → Has (x ∷ xs) x
+has_head : {X : Type 0} (x : X) (xs : List X) → ContainsAt (x ∷ xs) x
 has_head x xs = (0, omega arith, λ d. refl)
 
-has_tail : {X : Type 0} (y : X) (xs : List X) (x : X) → Has xs x → Has (y ∷ xs) x
+has_tail : {X : Type 0} (y : X) (xs : List X) (x : X) → ContainsAt xs x → ContainsAt (y ∷ xs) x
 has_tail y xs x h = (suc h.0, omega (arith, h.1), λ d. h.2 d)
 
 -- an element is the head, or stands behind it
-has_cases : {X : Type 0} (y : X) (xs : List X) (x : X) → Has (y ∷ xs) x → (y ≡ x) ⊎ Has xs x
+has_cases : {X : Type 0} (y : X) (xs : List X) (x : X) → ContainsAt (y ∷ xs) x → (y ≡ x) ⊎ ContainsAt xs x
 has_cases y xs x h = go h.0 h.1 h.2
   where
-    go : (k : ℕ) → k < suc (length xs) → ((d : _) → get_or (y ∷ xs) k d ≡ x) → (y ≡ x) ⊎ Has xs x
+    go : (k : ℕ) → k < suc (length xs) → ((d : _) → get_or (y ∷ xs) k d ≡ x) → (y ≡ x) ⊎ ContainsAt xs x
     go zero l at = inl (at x)
     go (suc k) l at = inr (k, omega arith, at)
 
-has_none : {X : Type 0} (x : X) → Has [] x → ⊥
+has_none : {X : Type 0} (x : X) → ContainsAt [] x → ⊥
 has_none x h = omega (arith, h.1)
 
 -- ---- the first use that passes
 
-pub first_passes : (p : Use → Bool) (us : List Use) (u : Use) → first p us ≡ Some u → Has us u × (p u ≡ true)
+pub first_passes : (p : Use → Bool) (us : List Use) (u : Use) → first p us ≡ Some u → ContainsAt us u × (p u ≡ true)
 first_passes p [] u e = let z : ◌≡◌ {A = ℕ} 0 1 = cc in absurd (omega arith)
 first_passes p (v ∷ us) u e =
     ⊎_elim
@@ -37,7 +37,7 @@ first_passes p (v ∷ us) u e =
     (λ (no' : p v ≡ false). let later : first p us ≡ Some u = cc in (has_tail v us u (first_passes p us u later).0, (first_passes p us u later).1))
     (cases_Bool (p v))
 
-pub first_none : (p : Use → Bool) (us : List Use) → first p us ≡ None → (u : Use) → Has us u → p u ≡ false
+pub first_none : (p : Use → Bool) (us : List Use) → first p us ≡ None → (u : Use) → ContainsAt us u → p u ≡ false
 first_none p [] e u h = absurd (has_none u h)
 first_none p (v ∷ us) e u h =
     ⊎_elim
@@ -58,7 +58,7 @@ module _ (m : Meaning) (object held : ℕ) where
   ceiling_le [] = omega arith
   ceiling_le (u ∷ us) = elim (excluded m object held u) as (λ b. cond b (min u.task (ceiling m us object held)) (ceiling m us object held) ≤ 16) [ true ↦ omega (arith, ceiling_le us) | false ↦ ceiling_le us ]
 
-  pub ceiling_least : (us : List Use) (u : Use) → Has us u → excluded m object held u ≡ true → ceiling m us object held ≤ u.task
+  pub ceiling_least : (us : List Use) (u : Use) → ContainsAt us u → excluded m object held u ≡ true → ceiling m us object held ≤ u.task
   ceiling_least [] u h e = absurd (has_none u h)
   ceiling_least (v ∷ us) u h e =
       ⊎_elim
@@ -67,7 +67,7 @@ module _ (m : Meaning) (object held : ℕ) where
       (has_cases v us u h)
 
   -- some excluded use has the ceiling for its task, or it is 16
-  ceiling_attained : (us : List Use) → ((u : Use) × Has us u × (excluded m object held u ≡ true) × (u.task ≡ ceiling m us object held)) ⊎ (ceiling m us object held ≡ 16)
+  ceiling_attained : (us : List Use) → ((u : Use) × ContainsAt us u × (excluded m object held u ≡ true) × (u.task ≡ ceiling m us object held)) ⊎ (ceiling m us object held ≡ 16)
   ceiling_attained [] = inr refl
   ceiling_attained (v ∷ us) =
       ⊎_elim
@@ -106,7 +106,7 @@ module _ (m : Meaning) (object held : ℕ) where
 -- ---- bounds
 
 module _ (m : Meaning) (plan : Contents) (task : ℕ) where
-  bound_greatest : (us : List Use) (u : Use) → Has us u → delays m plan.uses task u ≡ true → budget_of plan u.task ≤ bound_over m plan task us
+  bound_greatest : (us : List Use) (u : Use) → ContainsAt us u → delays m plan.uses task u ≡ true → budget_of plan u.task ≤ bound_over m plan task us
   bound_greatest [] u h e = absurd (has_none u h)
   bound_greatest (v ∷ us) u h e =
       ⊎_elim
@@ -115,7 +115,7 @@ module _ (m : Meaning) (plan : Contents) (task : ℕ) where
       (has_cases v us u h)
 
   -- some use that delays the task has the bound for its task's budget, or the bound is 0
-  bound_attained : (us : List Use) → ((u : Use) × Has us u × (delays m plan.uses task u ≡ true) × (budget_of plan u.task ≡ bound_over m plan task us)) ⊎ (bound_over m plan task us ≡ 0)
+  bound_attained : (us : List Use) → ((u : Use) × ContainsAt us u × (delays m plan.uses task u ≡ true) × (budget_of plan u.task ≡ bound_over m plan task us)) ⊎ (bound_over m plan task us ≡ 0)
   bound_attained [] = inr refl
   bound_attained (v ∷ us) =
       ⊎_elim

@@ -1,6 +1,6 @@
 -- A plan is accepted exactly from the bytes that it is written in. Assumes nothing.
 use Rattle.std.proofs.Common.{◌≡◌, ℕ, ◌+◌, ◌-◌, ◌*◌, ◌<◌, ◌≤◌, ltb, ◌↔◌, List, [], ◌∷◌, ◌++◌, length, get_or, drop, Ok, Err, Result, sym, refl, ap, ◌∙◌, subst, ap₂, inl, inr, arith}
-use Rattle.std.specs.List.{flat_map, ContainsAt as Has, AllByRecursion as All}
+use Rattle.std.specs.List.{flat_map, ContainsAt, AllByRecursion}
 use Rattle.std.proofs.ByRecursion.{all-has, all_has_itself, All-get_or, All-from_get_or, All-weaker, has_append_left, has_push, has_push_cases, has_get_or}
 use Rattle.std.proofs.lemmas.List.{append_assoc, append-nil, drop_more, get_or-drop, get_or_push, length_push}
 use Rattle.std.proofs.lemmas.Bool.{ltb-false, le-ltb, ne_eqb}
@@ -34,10 +34,10 @@ rises_all [] = rises [] []
 rises_all (row ∷ rows) = ((λ c. ((rises [] (row ∷ rows)).0 c).1), (λ h. (rises [] (row ∷ rows)).1 (omega arith, h)))
 
 abbrev Fresh : {X : Type 0} → List X → X → Type 0
-Fresh before x = Has before x → ⊥
+Fresh before x = ContainsAt before x → ⊥
 
 -- each element is new after those before it: none stands twice, and none is among those before
-distinct_from : {X : Type 0} (before xs : List X) → Chain Fresh before xs → Distinct xs × All (Fresh before) xs
+distinct_from : {X : Type 0} (before xs : List X) → Chain Fresh before xs → Distinct xs × AllByRecursion (Fresh before) xs
 distinct_from before [] chain = (tt, tt)
 distinct_from before (x ∷ xs) chain =
     let longer = before ++ (x ∷ []) in
@@ -45,7 +45,7 @@ distinct_from before (x ∷ xs) chain =
     let once : Fresh xs x = λ again. all-has (Fresh longer) xs x h.1 again (has_push before x) in
     ((once, h.0), (chain.0, All-weaker (Fresh longer) (Fresh before) (λ y new old. new (has_append_left before (x ∷ []) y old)) xs h.1))
 
-fresh_from : {X : Type 0} (before xs : List X) → Distinct xs → All (Fresh before) xs → Chain Fresh before xs
+fresh_from : {X : Type 0} (before xs : List X) → Distinct xs → AllByRecursion (Fresh before) xs → Chain Fresh before xs
 fresh_from before [] distinct new = tt
 fresh_from before (x ∷ xs) distinct new =
     let still : (i : ℕ) → i < length xs → Fresh (before ++ (x ∷ [])) (get_or xs i x) = λ i inside old.
@@ -53,20 +53,20 @@ fresh_from before (x ∷ xs) distinct new =
     (new.0, fresh_from (before ++ (x ∷ [])) xs distinct.1 (All-from_get_or (Fresh (before ++ (x ∷ []))) xs x still))
 
 fresh_all : {X : Type 0} (xs : List X) → Chain Fresh [] xs ↔ Distinct xs
-fresh_all xs = ((λ chain. (distinct_from [] xs chain).0), (λ distinct. fresh_from [] xs distinct (All-weaker (Has xs) (Fresh []) (λ y _ none. omega arith) xs (all_has_itself xs))))
+fresh_all xs = ((λ chain. (distinct_from [] xs chain).0), (λ distinct. fresh_from [] xs distinct (All-weaker (ContainsAt xs) (Fresh []) (λ y _ none. omega arith) xs (all_has_itself xs))))
 
 -- a section after a count of one byte
 module _ {A : Type 0} (one : List A → List ℕ → Read A) (written : A → List ℕ) (L : A → Type 0) (Q : List A → A → Type 0) (exact : Exact one written L Q) (low high : ℕ) where
-  section_sound : (bytes : List ℕ) (xs : List A) (rest : List ℕ) → Bytes bytes → taking 1 bytes (counted low high (get_or bytes 0 0) (λ n. read_some one n [] (drop 1 bytes))) ≡ Ok (xs, rest) → (bytes ≡ (length xs ∷ flat_map written xs) ++ rest) × (low ≤ length xs) × (length xs ≤ high) × All L xs × Chain Q [] xs
+  section_sound : (bytes : List ℕ) (xs : List A) (rest : List ℕ) → Bytes bytes → taking 1 bytes (counted low high (get_or bytes 0 0) (λ n. read_some one n [] (drop 1 bytes))) ≡ Ok (xs, rest) → (bytes ≡ (length xs ∷ flat_map written xs) ++ rest) × (low ≤ length xs) × (length xs ≤ high) × AllByRecursion L xs × Chain Q [] xs
   section_sound bytes xs rest are e =
       let p = passed (ltb (length bytes) 1) PlanEnds _ (xs, rest) e in
       let s = counted_sound one written L Q exact low high (get_or bytes 0 0) (drop 1 bytes) xs rest (λ i. rw (get_or-drop 1 bytes i 0) (are (1 + i))) p.1 in
       (drop_more bytes 0 0 (ltb-false (length bytes) 1 p.0) ∙ ap₂ (λ n left. n ∷ left) (sym s.0) s.3, s.1, s.2, s.4, s.5)
 
-  section_complete : (xs : List A) (rest : List ℕ) → low ≤ length xs → length xs ≤ high → All L xs → Chain Q [] xs → (let bytes = (length xs ∷ flat_map written xs) ++ rest in taking 1 bytes (counted low high (get_or bytes 0 0) (λ n. read_some one n [] (drop 1 bytes)))) ≡ Ok (xs, rest)
+  section_complete : (xs : List A) (rest : List ℕ) → low ≤ length xs → length xs ≤ high → AllByRecursion L xs → Chain Q [] xs → (let bytes = (length xs ∷ flat_map written xs) ++ rest in taking 1 bytes (counted low high (get_or bytes 0 0) (λ n. read_some one n [] (drop 1 bytes)))) ≡ Ok (xs, rest)
   section_complete xs rest least most keep chain = rw (le-ltb (length ((length xs ∷ flat_map written xs) ++ rest)) 1 (omega arith)) (counted_complete one written L Q exact low high xs rest least most keep chain)
 
-uses_sound : (m : Meaning) (plan : Contents) (bytes rest : List ℕ) → Bytes bytes → read_uses (length plan.rows) (length plan.objects) m.modes bytes ≡ Ok (plan.uses, rest) → (bytes ≡ (two_bytes (length plan.uses) ++ flat_map use_bytes plan.uses) ++ rest) × (length plan.uses ≤ 512) × All (UseLimits m plan) plan.uses × Distinct plan.uses
+uses_sound : (m : Meaning) (plan : Contents) (bytes rest : List ℕ) → Bytes bytes → read_uses (length plan.rows) (length plan.objects) m.modes bytes ≡ Ok (plan.uses, rest) → (bytes ≡ (two_bytes (length plan.uses) ++ flat_map use_bytes plan.uses) ++ rest) × (length plan.uses ≤ 512) × AllByRecursion (UseLimits m plan) plan.uses × Distinct plan.uses
 uses_sound m plan bytes rest are e =
     let p = passed (ltb (length bytes) 2) PlanEnds _ (plan.uses, rest) e in
     let s = counted_sound _ use_bytes (UseLimits m plan) Fresh (use_exact m plan) 0 512 (get_or bytes 0 0 * 256 + get_or bytes 1 0) (drop 2 bytes) plan.uses rest (λ i. rw (get_or-drop 2 bytes i 0) (are (2 + i))) p.1 in

@@ -1,6 +1,6 @@
 -- Ceilings and bounds, the laws that they keep, and the reasons given for them. docs/RULES.md has them in words. Assumes nothing.
 use Rattle.std.specs.Prelude.{◌≡◌, ℕ, ◌≤◌, min, max, Bool, true, cond, ◌&&◌, List, [], ◌∷◌, Some, None, Option, ◌==◌, nat_le, nat_lt}
-use Rattle.std.specs.List.{ContainsAt as Has}
+use Rattle.std.specs.List.{ContainsAt}
 use Rattle.rules.specs.Meaning.{Meaning}
 use Rattle.plans.specs.Contents.{Contents, budget_of}
 use Rattle.plans.specs.declared.parts.Use.{Use}
@@ -50,17 +50,17 @@ bound_reason m plan task = first (costs m plan task (bound m plan task)) plan.us
 -- the law of a ceiling c and of the use that is given as its reason, for an object held in a mode
 pub record CeilingLaw (m : Meaning) (uses : List Use) (object held c : ℕ) (reason : Option Use) : Type 0 where
   -- no excluded use has a smaller task
-  pub least : (u : Use) → Has uses u → excluded m object held u ≡ true → c ≤ u.task
+  pub least : (u : Use) → ContainsAt uses u → excluded m object held u ≡ true → c ≤ u.task
   -- the reason is an excluded use of the plan, and its task is the ceiling
-  pub attained : (u : Use) → reason ≡ Some u → Has uses u × (excluded m object held u ≡ true) × (u.task ≡ c)
+  pub attained : (u : Use) → reason ≡ Some u → ContainsAt uses u × (excluded m object held u ≡ true) × (u.task ≡ c)
   -- without a reason the ceiling is 16: no task has an excluded use, since tasks are below 16
   pub free : reason ≡ None → c ≡ 16
 
 -- the law of a bound b and of the use that is given as its reason
 pub record BoundLaw (m : Meaning) (plan : Contents) (task b : ℕ) (reason : Option Use) : Type 0 where
   -- no use that delays the task belongs to a task with a greater budget
-  pub greatest : (u : Use) → Has plan.uses u → delays m plan.uses task u ≡ true → budget_of plan u.task ≤ b
+  pub greatest : (u : Use) → ContainsAt plan.uses u → delays m plan.uses task u ≡ true → budget_of plan u.task ≤ b
   -- the reason is a use of the plan that delays the task, and the budget of its task is the bound
-  pub attained : (u : Use) → reason ≡ Some u → Has plan.uses u × (delays m plan.uses task u ≡ true) × (budget_of plan u.task ≡ b)
+  pub attained : (u : Use) → reason ≡ Some u → ContainsAt plan.uses u × (delays m plan.uses task u ≡ true) × (budget_of plan u.task ≡ b)
   -- without a reason the bound is 0
   pub free : reason ≡ None → b ≡ 0

@@ -1,7 +1,7 @@
 -- The limits that an accepted plan keeps. Assumes nothing.
 use Rattle.std.specs.Prelude.{◌≡◌, ◌^◌, ◌<◌, ◌≤◌, List, [], ◌∷◌, length, FitsSigned}
 use Rattle.std.specs.Int.{w32}
-use Rattle.std.specs.List.{ContainsAt as Has, AllByRecursion as All}
+use Rattle.std.specs.List.{ContainsAt, AllByRecursion}
 use Rattle.rules.specs.Meaning.{Meaning}
 use Rattle.plans.specs.Contents.{Contents}
 use Rattle.plans.specs.declared.parts.Object.{Object}
@@ -11,7 +11,7 @@ use Rattle.plans.specs.declared.parts.Use.{Use}
 -- an object has a start value for each of its four parts, each a signed number of 32 bits
 pub record ObjectLimits (o : Object) : Type 0 where
   pub four : length o.start ≡ 4
-  pub signed : All (FitsSigned w32) o.start
+  pub signed : AllByRecursion (FitsSigned w32) o.start
 
 -- an instance may run at least a tick and at most its period, a number of 16 bits
 pub record RowLimits (row : Row) : Type 0 where
@@ -34,7 +34,7 @@ pub record UseLimits (m : Meaning) (plan : Contents) (u : Use) : Type 0 where
 -- no element stands twice
 abbrev pub Distinct : {X : Type 0} → List X → Type 0
 Distinct [] = Unit {0}
-Distinct (x ∷ xs) = (Has xs x → ⊥) × Distinct xs
+Distinct (x ∷ xs) = (ContainsAt xs x → ⊥) × Distinct xs
 
 pub record Limits (m : Meaning) (plan : Contents) : Type 0 where
   pub some_object : 1 ≤ length plan.objects
@@ -42,8 +42,8 @@ pub record Limits (m : Meaning) (plan : Contents) : Type 0 where
   pub some_task : 1 ≤ length plan.rows
   pub few_tasks : length plan.rows ≤ 16
   pub few_uses : length plan.uses ≤ 512
-  pub objects_keep : All ObjectLimits plan.objects
-  pub rows_keep : All RowLimits plan.rows
+  pub objects_keep : AllByRecursion ObjectLimits plan.objects
+  pub rows_keep : AllByRecursion RowLimits plan.rows
   pub not_falling : NotFalling plan.rows
-  pub uses_keep : All (UseLimits m plan) plan.uses
+  pub uses_keep : AllByRecursion (UseLimits m plan) plan.uses
   pub uses_once : Distinct plan.uses

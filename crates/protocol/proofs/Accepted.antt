@@ -1,6 +1,6 @@
 -- What the answer of the next call tells: who asked for it, and what the locks, the budget and the rooms were.
 use Rattle.std.proofs.Common.{◌≡◌, ℕ, ◌<◌, ◌≤◌, Bool, true, false, ◌&&◌, eqb, ltb, ◌⊎◌, List, length, get_or, ℤ, pos, Some, None, Option, sym, refl, ap, ◌∙◌, subst, inl, inr, arith}
-use Rattle.std.specs.List.{ContainsAt as Has}
+use Rattle.std.specs.List.{ContainsAt}
 use Rattle.std.proofs.lemmas.Bool.{true≢false, false≢true, both_ways, cases_Bool, cond-true, and_parts, and_from, eqb-true, eq-eqb, ltb-false}
 use Rattle.plans.specs.Contents.{budget_of}
 use Rattle.plans.specs.declared.parts.Use.{Use}
@@ -54,7 +54,7 @@ module _ (setup : Setup) (s : State) where
   asks u run is_planned not_held =
       let plan = use_planned setup u.task u.object u.mode is_planned in
       record {
-        listed = subst (Has setup.plan.uses) (same_use plan.entry u plan.of_task plan.of_object plan.of_mode) plan.listed;
+        listed = subst (ContainsAt setup.plan.uses) (same_use plan.entry u plan.of_task plan.of_object plan.of_mode) plan.listed;
         runs = run;
         not_held = λ r i task object mode. both_ways (any (is_record u.task u.object u.mode) s.locks) not_held (any_has (is_record u.task u.object u.mode) s.locks r i (and_from _ _ (eq-eqb r.task u.task task) (and_from _ _ (eq-eqb r.object u.object object) (eq-eqb r.mode u.mode mode))));
       }
@@ -66,7 +66,7 @@ module _ (setup : Setup) (s : State) where
   locker_asks u o (Step.grants _ _ _ run is_planned not_held free room) t = asks u run is_planned not_held
 
   -- nothing blocks an asker whose lock is granted
-  granted_free : (u : Use) (o : Outcome) → Step setup s (asking u) o → o.answer ≡ Granted → ((b : LockRecord) → Has s.locks b → (b.task ≡ u.task → ⊥) → u.task < lock_ceiling setup b) × (length s.locks < setup.lock_room)
+  granted_free : (u : Use) (o : Outcome) → Step setup s (asking u) o → o.answer ≡ Granted → ((b : LockRecord) → ContainsAt s.locks b → (b.task ≡ u.task → ⊥) → u.task < lock_ceiling setup b) × (length s.locks < setup.lock_room)
   granted_free u o (Step.refuses _ why) e = absurd (true≢false (sym (ap accepted e)))
   granted_free u o (Step.waits _ _ _ h b run is_planned not_held held own by) e = absurd (true≢false (ap is_wait e))
   granted_free u o (Step.grants _ _ _ run is_planned not_held free room) e = (λ b i. blocks_false setup u.task b (free b i), room)

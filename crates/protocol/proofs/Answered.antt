@@ -1,6 +1,6 @@
 -- The kind of each answer: every member of a line is answered by a refusal or as its call is, and an end by an account.
 use Rattle.std.proofs.Common.{◌≡◌, ℕ, true, List, Some}
-use Rattle.std.specs.List.{AllByRecursion as All}
+use Rattle.std.specs.List.{AllByRecursion}
 use Rattle.protocol.specs.declared.words.Call.{Call}
 use Rattle.protocol.specs.declared.words.Account.{Account}
 use Rattle.protocol.specs.Machine.{Setup, State, Outcome, step, account_of}
@@ -25,11 +25,11 @@ kind_answered setup s c o (Step.ticks j run less) = AnswerOf.ran j
 kind_answered setup s c o (Step.idles nobody) = AnswerOf.idle
 
 -- so does each member of a line
-pub of_kind : (setup : Setup) (start s : State) (line : List Event) → Line setup start line s → All (λ e. AnswerOf e.call e.answer) line
+pub of_kind : (setup : Setup) (start s : State) (line : List Event) → Line setup start line s → AllByRecursion (λ e. AnswerOf e.call e.answer) line
 of_kind setup start s line none = tt
 of_kind setup start s line (more {line = l} {s = t} before c) = (kind_answered setup t c (step setup t c) (step_is setup t c), of_kind setup start t l before)
 
 -- and an accepted close or drop answers an account
-pub ends_account : (setup : Setup) (start s : State) (line : List Event) → Line setup start line s → All (λ e. (i : ℕ) → ends i e ≡ true → (a : Account) × (account_in e.answer ≡ Some a)) line
+pub ends_account : (setup : Setup) (start s : State) (line : List Event) → Line setup start line s → AllByRecursion (λ e. (i : ℕ) → ends i e ≡ true → (a : Account) × (account_in e.answer ≡ Some a)) line
 ends_account setup start s line none = tt
 ends_account setup start s line (more {line = l} {s = t} before c) = (λ i b. (account_of t i, ends_answers setup t i (kind setup t c) b), ends_account setup start t l before)

@@ -1,6 +1,6 @@
 -- How long lower tasks can hold a task up: one wait, one lower instance, the bound.
 use Rattle.std.proofs.Common.{◌≡◌, ℕ, ◌<◌, ◌≤◌, max, true, eqb, ltb, List, [], ◌∷◌, Some, None, Option, sym, refl, ap, ◌∙◌, subst, inl, inr, arith}
-use Rattle.std.specs.List.{ContainsAt as Has}
+use Rattle.std.specs.List.{ContainsAt}
 use Rattle.std.proofs.ByRecursion.{has_push_cases}
 use Rattle.std.proofs.lemmas.Bool.{cond_both, cond-true, ltb-true, lt-ltb, le-leb, eqb-true, and_parts, and_from, false≢true, both_ways}
 use Rattle.rules.specs.Meaning.{Meaning}
@@ -53,7 +53,7 @@ module _ {ceil : LockRecord → ℕ} {Planned : LockRecord → Type 0} {before :
   still_waits (Move.grant r run plan free same) i g h w b = same i ∙ w
   still_waits (Move.end j run now woken others) i g h w b = others i (λ e. ready_not_wait g (sym run.ready ∙ (ap before (sym e) ∙ w))) other ∙ w
     where
-      stays : Has locks b.lock × (b.lock.task ≡ j → ⊥)
+      stays : ContainsAt locks b.lock × (b.lock.task ≡ j → ⊥)
       stays = stays_other j locks b.lock b.held
 
       other : before i ≡ Waiting j → ⊥
@@ -77,7 +77,7 @@ module _ (setup : Setup) (s : State) where
   tick_of_running {e} (Kind.runs k run less) j r = let own : k ≡ j = cc in (run ∙ ap Some own, subst (λ n. (task_at s.tasks n).used < budget_of setup.plan n) own less)
 
   -- a task that is told to wait is blocked, and waits
-  pub told_is : {e : Event} {tasks : List Task} {locks : List LockRecord} → Kind setup s e tasks locks → (i : ℕ) → told_to_wait i e ≡ true → (b : LockRecord) × (running s.tasks ≡ Some i) × Has s.locks b × Blocks setup i b × (standing_at tasks i ≡ Waiting b.task)
+  pub told_is : {e : Event} {tasks : List Task} {locks : List LockRecord} → Kind setup s e tasks locks → (i : ℕ) → told_to_wait i e ≡ true → (b : LockRecord) × (running s.tasks ≡ Some i) × ContainsAt s.locks b × Blocks setup i b × (standing_at tasks i ≡ Waiting b.task)
   told_is {e} (Kind.quiet _ q no_end) i t = absurd (both_ways (told_to_wait i e) (q.no_wait i) t)
   told_is {e} (Kind.arrives task there rest) i t = absurd (false≢true t)
   told_is {e} (Kind.waits task object mode b run held blocked) i t =
@@ -89,7 +89,7 @@ module _ (setup : Setup) (s : State) where
   told_is {e} (Kind.runs k run less) i t = absurd (false≢true t)
 
   -- one that ends holds nothing after
-  pub end_clears : {e : Event} {tasks : List Task} {locks : List LockRecord} → Kind setup s e tasks locks → (h : ℕ) → ends h e ≡ true → (r : LockRecord) → Has locks r → r.task ≡ h → ⊥
+  pub end_clears : {e : Event} {tasks : List Task} {locks : List LockRecord} → Kind setup s e tasks locks → (h : ℕ) → ends h e ≡ true → (r : LockRecord) → ContainsAt locks r → r.task ≡ h → ⊥
   end_clears {e} (Kind.quiet _ q no_end) h t r i own = both_ways (ends h e) (no_end h) t
   end_clears {e} (Kind.arrives task there rest) h t r i own = false≢true t
   end_clears {e} (Kind.waits task object mode b run held blocked) h t r i own = false≢true t
@@ -100,7 +100,7 @@ module _ (setup : Setup) (s : State) where
 -- ---- the bound
 
 -- the greatest budget is no less than any
-bound_covers : (m : Meaning) (plan : Contents) (i : ℕ) (us : List Use) (u : Use) → Has us u → delays m plan.uses i u ≡ true → budget_of plan u.task ≤ bound_over m plan i us
+bound_covers : (m : Meaning) (plan : Contents) (i : ℕ) (us : List Use) (u : Use) → ContainsAt us u → delays m plan.uses i u ≡ true → budget_of plan u.task ≤ bound_over m plan i us
 bound_covers m plan i [] u has d = absurd (has_none u has)
 bound_covers m plan i (v ∷ vs) u has d =
     let rest = bound_over m plan i vs in

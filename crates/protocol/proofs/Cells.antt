@@ -1,6 +1,6 @@
 -- What putting a journal back and running deeds leave in the cells.
 use Rattle.std.proofs.Common.{◌≡◌, ℕ, Bool, true, false, cond, not, List, [], ◌∷◌, ◌++◌, get_or, set, ℤ, pos, filter, sym, refl, ap, ◌∙◌}
-use Rattle.std.specs.List.{AllByRecursion as All}
+use Rattle.std.specs.List.{AllByRecursion}
 use Rattle.std.proofs.lemmas.List.{set-set, set_comm, set-get_or, get_or-set_other}
 use Rattle.protocol.specs.declared.words.Image.{Image}
 use Rattle.protocol.specs.Machine.{put_back}
@@ -13,11 +13,11 @@ deed_cell (put cell v) = cell
 
 -- no image is of this cell
 abbrev pub NoImage : List Image → ℕ → Type 0
-NoImage journal cell = All (λ (m : Image). m.cell ≡ cell → ⊥) journal
+NoImage journal cell = AllByRecursion (λ (m : Image). m.cell ≡ cell → ⊥) journal
 
 -- no deed is of this cell
 abbrev pub NoDeed : List Deed → ℕ → Type 0
-NoDeed ds cell = All (λ d. deed_cell d ≡ cell → ⊥) ds
+NoDeed ds cell = AllByRecursion (λ d. deed_cell d ≡ cell → ⊥) ds
 
 -- a write to a cell without image comes through putting back
 pub put_back_set : (journal : List Image) (cells : List ℤ) (cell : ℕ) (v : ℤ) → NoImage journal cell → put_back journal (set cells cell v) ≡ set (put_back journal cells) cell v
@@ -93,19 +93,19 @@ replays_set ds images cells cell v d m r = let e = put_back_set images cells cel
 }
 
 -- images of such cells are put back
-pub replays_put_back : (ds : List Deed) (images others : List Image) (cells : List ℤ) → All (λ (m : Image). NoDeed ds m.cell × NoImage images m.cell) others → Replays ds images cells → Replays ds images (put_back others cells)
+pub replays_put_back : (ds : List Deed) (images others : List Image) (cells : List ℤ) → AllByRecursion (λ (m : Image). NoDeed ds m.cell × NoImage images m.cell) others → Replays ds images cells → Replays ds images (put_back others cells)
 replays_put_back ds images [] cells h r = r
 replays_put_back ds images (m ∷ others) cells h r =
     replays_set ds images (put_back others cells) m.cell m.old h.0.0 h.0.1 (replays_put_back ds images others cells h.1 r)
 
 -- deeds run on cells with images of other cells put back
-pub done_put_back : (ds : List Deed) (others : List Image) (cells : List ℤ) → All (λ (m : Image). NoDeed ds m.cell) others → done ds (put_back others cells) ≡ put_back others (done ds cells)
+pub done_put_back : (ds : List Deed) (others : List Image) (cells : List ℤ) → AllByRecursion (λ (m : Image). NoDeed ds m.cell) others → done ds (put_back others cells) ≡ put_back others (done ds cells)
 done_put_back ds [] cells h = refl
 done_put_back ds (m ∷ others) cells h =
     done_set ds (put_back others cells) m.cell m.old h.0 ∙ ap (λ c. set c m.cell m.old) (done_put_back ds others cells h.1)
 
 -- their reads
-pub agree_put_back : (ds : List Deed) (others : List Image) (cells : List ℤ) → All (λ (m : Image). NoDeed ds m.cell) others → Agree ds cells → Agree ds (put_back others cells)
+pub agree_put_back : (ds : List Deed) (others : List Image) (cells : List ℤ) → AllByRecursion (λ (m : Image). NoDeed ds m.cell) others → Agree ds cells → Agree ds (put_back others cells)
 agree_put_back ds [] cells h a = a
 agree_put_back ds (m ∷ others) cells h a = agree_set ds (put_back others cells) m.cell m.old h.0 (agree_put_back ds others cells h.1 a)
 

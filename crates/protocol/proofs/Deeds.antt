@@ -1,6 +1,6 @@
 -- Which cells a task may read or write by the locks that it holds: no other task touches what it may write.
 use Rattle.std.proofs.Common.{◌≡◌, ℕ, ◌<◌, Bool, true, ◌&&◌, eqb, List, ℤ, sym, ap, ◌∙◌, inl, inr, arith}
-use Rattle.std.specs.List.{ContainsAt as Has}
+use Rattle.std.specs.List.{ContainsAt}
 use Rattle.std.proofs.lemmas.Bool.{both_ways, cases_lt, eqb-true, and_parts, or_left, or_right}
 use Rattle.rules.specs.Meaning.{Meaning, Lawful, touches}
 use Rattle.protocol.specs.declared.words.LockRecord.{LockRecord}
@@ -13,7 +13,7 @@ use Rattle.protocol.proofs.Reached.{apart}
 pub record Reaches (passes : ℕ → ℕ → Bool) (locks : List LockRecord) (task cell : ℕ) : Type 0 where
   pub lock : LockRecord
   pub part : ℕ
-  pub held : Has locks lock
+  pub held : ContainsAt locks lock
   pub own : lock.task ≡ task
   pub place : cell ≡ cell_of lock.object part
   pub may : passes lock.mode part ≡ true
@@ -23,7 +23,7 @@ abbrev pub Apart : Meaning → List LockRecord → Type 0
 Apart m locks = (i k cell : ℕ) → (i ≡ k → ⊥) → Reaches m.writes locks i cell → Reaches (touches m) locks k cell → ⊥
 
 -- the lock that it needs is still there
-pub reaches_more : {passes : ℕ → ℕ → Bool} {locks : List LockRecord} (more : List LockRecord) {task cell : ℕ} → Reaches passes locks task cell → ((r : LockRecord) → r.task ≡ task → Has locks r → Has more r) → Reaches passes more task cell
+pub reaches_more : {passes : ℕ → ℕ → Bool} {locks : List LockRecord} (more : List LockRecord) {task cell : ℕ} → Reaches passes locks task cell → ((r : LockRecord) → r.task ≡ task → ContainsAt locks r → ContainsAt more r) → Reaches passes more task cell
 reaches_more more h stay = record { lock = h.lock; part = h.part; held = stay h.lock h.own h.held; own = h.own; place = h.place; may = h.may }
 
 -- what a mode reads it touches

@@ -1,6 +1,6 @@
 -- One wait, one lower instance, the bound: what is kept over every stretch in which some task numbered at most i is open.
 use Rattle.std.proofs.Common.{◌≡◌, ℕ, ◌+◌, ◌<◌, ◌≤◌, true, false, cond, ◌⊎◌, List, [], ◌∷◌, ◌++◌, length, Some, sym, refl, ap, ◌∙◌, subst, inl, inr, arith}
-use Rattle.std.specs.List.{AllByRecursion as All}
+use Rattle.std.specs.List.{AllByRecursion}
 use Rattle.std.proofs.lemmas.Bool.{cond_both, cond-true, cond-false, cases_Bool, eq-eqb}
 use Rattle.plans.specs.Ceilings.{bound}
 use Rattle.protocol.specs.declared.words.Standing.TheVariants.{Ready, Waiting}
@@ -23,7 +23,7 @@ use Rattle.protocol.proofs.Blocking.{lower_blocks, blocker_before, still_waits, 
 pub record Held (i : ℕ) (during : List Event) (s : State) (h : ℕ) : Type 0 where
   pub told : (count (told_to_wait i) during ≡ 0) ⊎ ((g : ℕ) × (standing_at s.tasks i ≡ Waiting g))
   pub ran : count (lower_ticks i) during ≤ (task_at s.tasks h).used
-  pub only : All (λ e. (k : ℕ) → runner e.answer ≡ Some k → i < k → h ≡ k) during
+  pub only : AllByRecursion (λ e. (k : ℕ) → runner e.answer ≡ Some k → i < k → h ≡ k) during
   pub lasting : NoEnd h during
 
 -- any two ticks of lower tasks are the same task's, and it does not end between them
@@ -81,7 +81,7 @@ module _ (setup : Setup) (i : ℕ) (few : length setup.plan.rows ≤ 16) (s : St
       let head : late ≡ member setup s c = cc in
       let tail : during ≡ between ++ (early ∷ older) = cc in
       let h = d.held j (ticker_blocks j (ap (λ (x : Event). runner x.answer) (sym head) ∙ rl) l) in (
-        (all_parts (λ x. (k : ℕ) → runner x.answer ≡ Some k → i < k → j ≡ k) between (early ∷ older) (subst (All (λ x. (k : ℕ) → runner x.answer ≡ Some k → i < k → j ≡ k)) tail h.only)).1.0 n re m,
+        (all_parts (λ x. (k : ℕ) → runner x.answer ≡ Some k → i < k → j ≡ k) between (early ∷ older) (subst (AllByRecursion (λ x. (k : ℕ) → runner x.answer ≡ Some k → i < k → j ≡ k)) tail h.only)).1.0 n re m,
         (all_parts (λ x. ends j x ≡ false) between (early ∷ older) (subst (NoEnd j) tail h.lasting)).0,
       )
   one_on (x ∷ newer) between older late early j n e rl l re m =

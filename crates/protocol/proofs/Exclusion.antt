@@ -1,6 +1,6 @@
 -- Locks held at one time do not clash, and a task waits only for a lower one that blocks it.
 use Rattle.std.proofs.Common.{◌≡◌, ℕ, ◌<◌, false, List, ◌∷◌, ◌++◌, ℤ, sym, subst, arith}
-use Rattle.std.specs.List.{ContainsAt as Has}
+use Rattle.std.specs.List.{ContainsAt}
 use Rattle.std.proofs.ByRecursion.{has_append_right}
 use Rattle.protocol.specs.declared.words.Standing.TheVariants.{Ready, Waiting}
 use Rattle.protocol.specs.declared.words.LockRecord.{LockRecord}
@@ -18,8 +18,8 @@ module _ (setup : Setup) (cells : List ℤ) (start s : State) (line : List Event
   exclusion older between newer held wanted e other same =
       let order = pairs_two NotLower older between newer held wanted (subst (Pairs NotLower) e (kept setup cells start s line made line_to).sound.by_priority) in
       no_clash setup cells start s line made line_to held wanted
-      (subst (λ ls. Has ls held) (sym e) (has_append_right older (held ∷ (between ++ (wanted ∷ newer))) held (has_here held (between ++ (wanted ∷ newer)))))
-      (subst (λ ls. Has ls wanted) (sym e) (has_append_right older (held ∷ (between ++ (wanted ∷ newer))) wanted (has_there held (between ++ (wanted ∷ newer)) wanted (has_append_right between (wanted ∷ newer) wanted (has_here wanted newer)))))
+      (subst (λ ls. ContainsAt ls held) (sym e) (has_append_right older (held ∷ (between ++ (wanted ∷ newer))) held (has_here held (between ++ (wanted ∷ newer)))))
+      (subst (λ ls. ContainsAt ls wanted) (sym e) (has_append_right older (held ∷ (between ++ (wanted ∷ newer))) wanted (has_there held (between ++ (wanted ∷ newer)) wanted (has_append_right between (wanted ∷ newer) wanted (has_here wanted newer)))))
       (omega arith) same
 
   -- a task waits for a lower one, which is ready, and which holds a record whose ceiling is at most the waiter's number

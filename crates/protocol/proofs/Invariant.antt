@@ -1,6 +1,6 @@
 -- What every call keeps: why tasks wait, and how ceilings and priorities stand in the lock stack.
 use Rattle.std.proofs.Common.{◌≡◌, ℕ, ◌<◌, ◌≤◌, true, not, List, [], ◌∷◌, ◌++◌, filter, sym, refl, ap, ◌∙◌, subst, inl, inr, arith}
-use Rattle.std.specs.List.{ContainsAt as Has}
+use Rattle.std.specs.List.{ContainsAt}
 use Rattle.std.proofs.ByRecursion.{has_push_cases, has_append_left}
 use Rattle.std.proofs.lemmas.Bool.{cases_order, cases_lt, cases_eq, false≢true, not-true, not_from_false, eqb-false, ne_eqb}
 use Rattle.protocol.specs.declared.words.Standing.{Standing}
@@ -15,7 +15,7 @@ use Rattle.protocol.proofs.Places.{Runs, rest_not_wait, ready_not_wait, waits_ca
 pub record Blocker (ceil : LockRecord → ℕ) (locks : List LockRecord) (i h : ℕ) : Type 0 where
   pub lower : i < h
   pub lock : LockRecord
-  pub held : Has locks lock
+  pub held : ContainsAt locks lock
   pub own : lock.task ≡ h
   pub reaches : ceil lock ≤ i
 
@@ -26,11 +26,11 @@ NotLower older newer = newer.task ≤ older.task
 -- what the standings and the lock stack keep, whatever the ceilings, and whatever was planned
 pub record Sound (ceil : LockRecord → ℕ) (Planned : LockRecord → Type 0) (standing : ℕ → Standing) (locks : List LockRecord) : Type 0 where
   -- only ready tasks hold locks
-  pub holder_ready : (r : LockRecord) → Has locks r → standing r.task ≡ Ready
+  pub holder_ready : (r : LockRecord) → ContainsAt locks r → standing r.task ≡ Ready
   -- every lock was planned
-  pub planned : (r : LockRecord) → Has locks r → Planned r
+  pub planned : (r : LockRecord) → ContainsAt locks r → Planned r
   -- the ceiling of a lock is past the number of every higher task that holds one
-  pub clear : (p q : LockRecord) → Has locks p → Has locks q → p.task < q.task → p.task < ceil q
+  pub clear : (p q : LockRecord) → ContainsAt locks p → ContainsAt locks q → p.task < q.task → p.task < ceil q
   -- the stack is in order of priority
   pub by_priority : Pairs NotLower locks
   -- a task waits for one that blocks it
@@ -42,9 +42,9 @@ pub data Move (ceil : LockRecord → ℕ) (Planned : LockRecord → Type 0) (bef
   -- a resting task becomes ready
   arrive : (i : ℕ) → before i ≡ Resting → after i ≡ Ready → ((k : ℕ) → (k ≡ i → ⊥) → after k ≡ before k) → Move ceil Planned before after locks locks
   -- the running task is blocked by b, and waits for its holder
-  wait : (j : ℕ) (b : LockRecord) → Runs before j → Has locks b → (b.task ≡ j → ⊥) → ceil b ≤ j → after j ≡ Waiting b.task → ((k : ℕ) → (k ≡ j → ⊥) → after k ≡ before k) → Move ceil Planned before after locks locks
+  wait : (j : ℕ) (b : LockRecord) → Runs before j → ContainsAt locks b → (b.task ≡ j → ⊥) → ceil b ≤ j → after j ≡ Waiting b.task → ((k : ℕ) → (k ≡ j → ⊥) → after k ≡ before k) → Move ceil Planned before after locks locks
   -- the running task gets the lock r, which no lock of another task blocks
-  grant : (r : LockRecord) → Runs before r.task → Planned r → ((p : LockRecord) → Has locks p → (p.task ≡ r.task → ⊥) → r.task < ceil p) → ((k : ℕ) → after k ≡ before k) → Move ceil Planned before after locks (locks ++ r ∷ [])
+  grant : (r : LockRecord) → Runs before r.task → Planned r → ((p : LockRecord) → ContainsAt locks p → (p.task ≡ r.task → ⊥) → r.task < ceil p) → ((k : ℕ) → after k ≡ before k) → Move ceil Planned before after locks (locks ++ r ∷ [])
   -- the running task rests, its locks leave, and those that wait for it become ready
   end : (j : ℕ) → Runs before j → after j ≡ Resting → ((k : ℕ) → before k ≡ Waiting j → after k ≡ Ready) → ((k : ℕ) → (k ≡ j → ⊥) → (before k ≡ Waiting j → ⊥) → after k ≡ before k) → Move ceil Planned before after locks (filter (λ r. not (own_lock j r)) locks)
 
@@ -66,7 +66,7 @@ module _ {ceil : LockRecord → ℕ} {Planned : LockRecord → Type 0} {standing
       from (Waiting g) e o = blocked (run.before i g (awaited_ready i g e) (inr e) l)
 
   -- a running task is no lower than any holder
-  pub runs_highest : (j : ℕ) (r : LockRecord) → Runs standing j → Has locks r → j ≤ r.task
+  pub runs_highest : (j : ℕ) (r : LockRecord) → Runs standing j → ContainsAt locks r → j ≤ r.task
   runs_highest j r run held = elim (cases_lt r.task j) [
     | inl l ↦ (let b = lower_runs j r.task run (ap is_open (sound.holder_ready r held)) l in
         let lt : r.task < b.lock.task = rw b.own l in
@@ -76,11 +76,11 @@ module _ {ceil : LockRecord → ℕ} {Planned : LockRecord → Type 0} {standing
   ]
 
   -- the holder of a lock that blocks the running task is lower
-  pub blocked_by_lower : (j : ℕ) (b : LockRecord) → Runs standing j → Has locks b → (b.task ≡ j → ⊥) → ceil b ≤ j → Blocker ceil locks j b.task
+  pub blocked_by_lower : (j : ℕ) (b : LockRecord) → Runs standing j → ContainsAt locks b → (b.task ≡ j → ⊥) → ceil b ≤ j → Blocker ceil locks j b.task
   blocked_by_lower j b run held other le = let m = runs_highest j b run held in record { lower = omega arith; lock = b; held = held; own = refl; reaches = le }
 
   -- and a blocked running task holds nothing
-  pub blocked_holds_nothing : (j : ℕ) (b c : LockRecord) → Runs standing j → Has locks b → (b.task ≡ j → ⊥) → ceil b ≤ j → Has locks c → c.task ≡ j → ⊥
+  pub blocked_holds_nothing : (j : ℕ) (b c : LockRecord) → Runs standing j → ContainsAt locks b → (b.task ≡ j → ⊥) → ceil b ≤ j → ContainsAt locks c → c.task ≡ j → ⊥
   blocked_holds_nothing j b c run held other le mine own =
       let m = runs_highest j b run held in
       let lt : c.task < b.task = omega arith in
@@ -98,11 +98,11 @@ module _ {ceil : LockRecord → ℕ} {Planned : LockRecord → Type 0} {standing
   ]
 
 -- a lock that stays is of another task
-pub stays_other : (j : ℕ) (locks : List LockRecord) (r : LockRecord) → Has (filter (λ x. not (own_lock j x)) locks) r → Has locks r × (r.task ≡ j → ⊥)
+pub stays_other : (j : ℕ) (locks : List LockRecord) (r : LockRecord) → ContainsAt (filter (λ x. not (own_lock j x)) locks) r → ContainsAt locks r × (r.task ≡ j → ⊥)
 stays_other j locks r i = let k = has_kept (λ x. not (own_lock j x)) locks r i in (k.0, eqb-false r.task j (not-true (own_lock j r) k.1))
 
 -- and the locks of other tasks stay
-pub other_stays : (j : ℕ) (locks : List LockRecord) (r : LockRecord) → Has locks r → (r.task ≡ j → ⊥) → Has (filter (λ x. not (own_lock j x)) locks) r
+pub other_stays : (j : ℕ) (locks : List LockRecord) (r : LockRecord) → ContainsAt locks r → (r.task ≡ j → ⊥) → ContainsAt (filter (λ x. not (own_lock j x)) locks) r
 other_stays j locks r i n = kept_has (λ x. not (own_lock j x)) locks r i (not_from_false (own_lock j r) (ne_eqb r.task j n))
 
 -- equal locks are of one task
@@ -113,7 +113,7 @@ same_task e = ap (λ (r : LockRecord). r.task) e
 
 module _ {ceil : LockRecord → ℕ} {Planned : LockRecord → Type 0} {before : ℕ → Standing} {locks : List LockRecord} (sound : Sound ceil Planned before locks) where
   -- a grant
-  sound_grant : (r : LockRecord) → Runs before r.task → Planned r → ((p : LockRecord) → Has locks p → (p.task ≡ r.task → ⊥) → r.task < ceil p) → Sound ceil Planned before (locks ++ r ∷ [])
+  sound_grant : (r : LockRecord) → Runs before r.task → Planned r → ((p : LockRecord) → ContainsAt locks p → (p.task ≡ r.task → ⊥) → r.task < ceil p) → Sound ceil Planned before (locks ++ r ∷ [])
   sound_grant r run plan free = record {
     holder_ready = λ p i. elim (has_push_cases locks r p i) [ inl h ↦ sound.holder_ready p h | inr e ↦ rw (← e) run.ready ];
     planned = λ p i. elim (has_push_cases locks r p i) [ inl h ↦ sound.planned p h | inr e ↦ subst Planned e plan ];
@@ -156,7 +156,7 @@ module _ {ceil : LockRecord → ℕ} {Planned : LockRecord → Type 0} {before a
   }
 
   -- a wait
-  sound_wait : (j : ℕ) (b : LockRecord) → Runs before j → Has locks b → (b.task ≡ j → ⊥) → ceil b ≤ j → after j ≡ Waiting b.task → ((k : ℕ) → (k ≡ j → ⊥) → after k ≡ before k) → Sound ceil Planned after locks
+  sound_wait : (j : ℕ) (b : LockRecord) → Runs before j → ContainsAt locks b → (b.task ≡ j → ⊥) → ceil b ≤ j → after j ≡ Waiting b.task → ((k : ℕ) → (k ≡ j → ⊥) → after k ≡ before k) → Sound ceil Planned after locks
   sound_wait j b run held other le now others = record {
     holder_ready = λ r h. elim (cases_eq r.task j) [
       | inl e ↦ absurd (blocked_holds_nothing sound j b r run held other le h e)

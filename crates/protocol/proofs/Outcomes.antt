@@ -1,6 +1,6 @@
 -- The kinds of outcome that the laws tell apart: nothing of note, an arrival, a wait, a grant, an end, a tick.
 use Rattle.std.proofs.Common.{◌≡◌, ℕ, ◌<◌, ◌≤◌, true, false, not, ◌&&◌, eqb, leb, List, [], ◌∷◌, ◌++◌, map, length, Some, None, Decides, filter, refl, inl, inr}
-use Rattle.std.specs.List.{ContainsAt as Has}
+use Rattle.std.specs.List.{ContainsAt}
 use Rattle.std.proofs.lemmas.Bool.{eqb-true, eq-eqb, eqb-false, leb-true, leb-false, and_parts, and_from, and_cases, and_right, not-true, not-false}
 use Rattle.plans.specs.Contents.{budget_of}
 use Rattle.plans.specs.declared.parts.Use.{Use}
@@ -20,7 +20,7 @@ use Rattle.protocol.proofs.Steps.{Step, step_is}
 -- the plan has a use for the lock
 pub record Planned (setup : Setup) (r : LockRecord) : Type 0 where
   pub entry : Use
-  pub listed : Has setup.plan.uses entry
+  pub listed : ContainsAt setup.plan.uses entry
   pub of_task : entry.task ≡ r.task
   pub of_object : entry.object ≡ r.object
   pub of_mode : entry.mode ≡ r.mode
@@ -50,9 +50,9 @@ pub data Kind (setup : Setup) (s : State) : Event → List Task → List LockRec
   quiet : (e : Event) → Quiet e → ((i : ℕ) → ends i e ≡ false) → Kind setup s e s.tasks s.locks
   arrives : (task : ℕ) → task < length setup.plan.rows → standing_at s.tasks task ≡ Resting → Kind setup s (record { call = Arrive task; answer = Open }) (change (λ _. arrived) s.tasks task) s.locks
   -- the running task is blocked by the lock b
-  waits : (task object mode : ℕ) (b : LockRecord) → running s.tasks ≡ Some task → Has s.locks b → Blocks setup task b → Kind setup s (record { call = Lock task object mode; answer = Wait b.task }) (change (stand (Waiting b.task)) s.tasks task) s.locks
+  waits : (task object mode : ℕ) (b : LockRecord) → running s.tasks ≡ Some task → ContainsAt s.locks b → Blocks setup task b → Kind setup s (record { call = Lock task object mode; answer = Wait b.task }) (change (stand (Waiting b.task)) s.tasks task) s.locks
   -- the running task gets the lock r, which no lock of another task blocks
-  grants : (e : Event) (r : LockRecord) → Quiet e → ((i : ℕ) → ends i e ≡ false) → running s.tasks ≡ Some r.task → Planned setup r → ((b : LockRecord) → Has s.locks b → (b.task ≡ r.task → ⊥) → r.task < lock_ceiling setup b) → Kind setup s e s.tasks (s.locks ++ r ∷ [])
+  grants : (e : Event) (r : LockRecord) → Quiet e → ((i : ℕ) → ends i e ≡ false) → running s.tasks ≡ Some r.task → Planned setup r → ((b : LockRecord) → ContainsAt s.locks b → (b.task ≡ r.task → ⊥) → r.task < lock_ceiling setup b) → Kind setup s e s.tasks (s.locks ++ r ∷ [])
   -- the running task closes or drops
   finishes : (e : Event) (j : ℕ) → Quiet e → ((i : ℕ) → Decides (ends i e) (j ≡ i)) → account_in e.answer ≡ Some (account_of s j) → running s.tasks ≡ Some j → Kind setup s e (after_end j s.tasks) (filter (λ r. not (own_lock j r)) s.locks)
   -- the running task runs a tick
@@ -90,7 +90,7 @@ ends_one : (i j : ℕ) → Decides (eqb j i && true) (j ≡ i)
 ends_one i j = (λ e. eqb-true j i (and_parts (eqb j i) true e).0, λ e. and_from (eqb j i) true (eq-eqb j i e) refl)
 
 -- a wait for the task h, which has the blocking lock
-wait_kind : (setup : Setup) (s : State) (task object mode h : ℕ) (b : LockRecord) → running s.tasks ≡ Some task → Has s.locks b → b.task ≡ h → Blocks setup task b → Kind setup s (record { call = Lock task object mode; answer = Wait h }) (change (stand (Waiting h)) s.tasks task) s.locks
+wait_kind : (setup : Setup) (s : State) (task object mode h : ℕ) (b : LockRecord) → running s.tasks ≡ Some task → ContainsAt s.locks b → b.task ≡ h → Blocks setup task b → Kind setup s (record { call = Lock task object mode; answer = Wait h }) (change (stand (Waiting h)) s.tasks task) s.locks
 wait_kind setup s task object mode h b run held own t = rw (← own) (waits task object mode b run held t)
 
 -- each outcome has its kind

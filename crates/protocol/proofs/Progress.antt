@@ -1,6 +1,6 @@
 -- What the next call comes to: a refusal changes nothing, and what is asked as it should be is not refused.
 use Rattle.std.proofs.Common.{◌≡◌, ℕ, ◌<◌, ◌≤◌, Bool, true, false, cond, not, ◌&&◌, eqb, ltb, List, [], ◌∷◌, ◌++◌, length, get_or, ℤ, pos, Some, None, filter, Option, sym, refl, ap, ◌∙◌, inl, inr, arith}
-use Rattle.std.specs.List.{ContainsAt as Has}
+use Rattle.std.specs.List.{ContainsAt}
 use Rattle.std.proofs.lemmas.List.{get_or-set_same}
 use Rattle.std.proofs.ByRecursion.{all-has}
 use Rattle.std.proofs.lemmas.Bool.{true≢false, both_ways, cases_Bool, cases_eq, cases_lt, cond-true, cond-false, and_parts, and_from, or_left, or_right, not_from_true, eqb-true, eq-eqb, ltb-true, lt-ltb, le-ltb}
@@ -104,7 +104,7 @@ module _ (setup : Setup) (cells : List ℤ) (start s : State) (line : List Event
   is_it j run = ap (names j) run ∙ eq-eqb j j refl
 
   -- a use of the plan keeps its limits
-  use_limits : (u : Use) → Has setup.plan.uses u → UseLimits setup.rule setup.plan u
+  use_limits : (u : Use) → ContainsAt setup.plan.uses u → UseLimits setup.rule setup.plan u
   use_limits u i = all-has (UseLimits setup.rule setup.plan) setup.plan.uses u made.limits.uses_keep i
 
   -- ---- locks
@@ -128,7 +128,7 @@ module _ (setup : Setup) (cells : List ℤ) (start s : State) (line : List Event
       passes _ _ numbers ∙ (passes _ _ (is_it u.task a.runs) ∙ (passes _ _ (any_has (is_use u.task u.object u.mode) setup.plan.uses u a.listed own) ∙ fails _ _ (not_held u a)))
 
   -- all that block the asker are one task, and it waits for that one
-  waits_for_it : (u : Use) → Asks setup s u → (b : LockRecord) → Has s.locks b → (b.task ≡ u.task → ⊥) → lock_ceiling setup b ≤ u.task → (n : Option ℕ) → newest_task (blocks setup u.task) s.locks ≡ n → let o = wait_or_grant setup s u.task u.object u.mode n in (o.answer ≡ Wait b.task) × (standing_at o.left.tasks u.task ≡ Waiting b.task)
+  waits_for_it : (u : Use) → Asks setup s u → (b : LockRecord) → ContainsAt s.locks b → (b.task ≡ u.task → ⊥) → lock_ceiling setup b ≤ u.task → (n : Option ℕ) → newest_task (blocks setup u.task) s.locks ≡ n → let o = wait_or_grant setup s u.task u.object u.mode n in (o.answer ≡ Wait b.task) × (standing_at o.left.tasks u.task ≡ Waiting b.task)
   waits_for_it u a b i other le None e = let past = blocks_false setup u.task b (newest_none (blocks setup u.task) s.locks e b i) other in absurd (omega arith)
   waits_for_it u a b i other le (Some h) e =
       let sound = (kept setup cells start s line made line_to).sound in
@@ -139,7 +139,7 @@ module _ (setup : Setup) (cells : List ℤ) (start s : State) (line : List Event
       (ap Wait same, standing_of (changed_same (stand (Waiting h)) s.tasks u.task (ready_there s.tasks u.task run.ready)) ∙ ap Waiting same)
 
   -- where nothing blocks the asker, the lock is granted
-  granted : (u : Use) → ((b : LockRecord) → Has s.locks b → (b.task ≡ u.task → ⊥) → u.task < lock_ceiling setup b) → length s.locks < setup.lock_room → (n : Option ℕ) → newest_task (blocks setup u.task) s.locks ≡ n → let o = wait_or_grant setup s u.task u.object u.mode n in (o.answer ≡ Granted) × (o.left.locks ≡ s.locks ++ (asked_record u ∷ []))
+  granted : (u : Use) → ((b : LockRecord) → ContainsAt s.locks b → (b.task ≡ u.task → ⊥) → u.task < lock_ceiling setup b) → length s.locks < setup.lock_room → (n : Option ℕ) → newest_task (blocks setup u.task) s.locks ≡ n → let o = wait_or_grant setup s u.task u.object u.mode n in (o.answer ≡ Granted) × (o.left.locks ≡ s.locks ++ (asked_record u ∷ []))
   granted u free room None e = let is = cond-true (ltb (length s.locks) setup.lock_room) _ _ (lt-ltb (length s.locks) setup.lock_room room) in (says is, ap (λ (o : Outcome). o.left.locks) is)
   granted u free room (Some h) e =
       let (d, k, own, t) = newest_some (blocks setup u.task) s.locks h e in
@@ -157,7 +157,7 @@ module _ (setup : Setup) (cells : List ℤ) (start s : State) (line : List Event
   ]
 
   -- the numbers of a call that a lock covers are there
-  numbers_there : (r : LockRecord) (part : ℕ) → Has s.locks r → touches setup.rule r.mode part ≡ true → has_task setup r.task && (has_object setup r.object && is_part part) ≡ true
+  numbers_there : (r : LockRecord) (part : ℕ) → ContainsAt s.locks r → touches setup.rule r.mode part ≡ true → has_task setup r.task && (has_object setup r.object && is_part part) ≡ true
   numbers_there r part i t =
       let plan = (kept setup cells start s line made line_to).sound.planned r i in
       let l = use_limits plan.entry plan.listed in
@@ -165,11 +165,11 @@ module _ (setup : Setup) (cells : List ℤ) (start s : State) (line : List Event
       (and_from _ _ (lt-ltb r.object (length setup.plan.objects) (omega (arith, l.object_there, plan.of_object))) (part_there r.mode part t))
 
   -- and the lock is found
-  covered : (mode_passes : ℕ → Bool) (r : LockRecord) → Has s.locks r → mode_passes r.mode ≡ true → any (covers mode_passes r.task r.object) s.locks ≡ true
+  covered : (mode_passes : ℕ → Bool) (r : LockRecord) → ContainsAt s.locks r → mode_passes r.mode ≡ true → any (covers mode_passes r.task r.object) s.locks ≡ true
   covered mode_passes r i t = any_has (covers mode_passes r.task r.object) s.locks r i (and_from _ _ (eq-eqb r.task r.task refl) (and_from _ _ (eq-eqb r.object r.object refl) t))
 
   -- the cell of a part that a lock touches is there
-  cell_there : (r : LockRecord) (part : ℕ) → Has s.locks r → touches setup.rule r.mode part ≡ true → cell_of r.object part < length s.cells
+  cell_there : (r : LockRecord) (part : ℕ) → ContainsAt s.locks r → touches setup.rule r.mode part ≡ true → cell_of r.object part < length s.cells
   cell_there r part i t =
       let plan = (kept setup cells start s line made line_to).sound.planned r i in
       let l = use_limits plan.entry plan.listed in

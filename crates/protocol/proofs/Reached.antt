@@ -1,6 +1,6 @@
 -- What holds in every state that a line leads to: the invariant, and the laws that follow from it alone.
 use Rattle.std.proofs.Common.{◌≡◌, ℕ, ◌<◌, ◌≤◌, min, true, false, eqb, List, [], ◌∷◌, ◌++◌, length, replicate, ℤ, Some, None, sym, refl, ap, ◌∙◌, subst, inl, inr, arith}
-use Rattle.std.specs.List.{ContainsAt as Has}
+use Rattle.std.specs.List.{ContainsAt}
 use Rattle.std.proofs.lemmas.List.{get_or-replicate, get_or_past}
 use Rattle.std.proofs.ByRecursion.{all-has, has_push}
 use Rattle.std.proofs.lemmas.Bool.{cond_both, cond-true, cases_lt, cases_order, cases_Bool, eq-eqb, and_from}
@@ -61,7 +61,7 @@ kept setup cells start s line made line_to = kept_line setup start s line made.l
 -- ---- ceilings
 
 -- a use in a clashing mode bounds the ceiling
-ceiling_at_most : (m : Meaning) (uses : List Use) (object held : ℕ) (u : Use) → Has uses u → excluded m object held u ≡ true → ceiling m uses object held ≤ u.task
+ceiling_at_most : (m : Meaning) (uses : List Use) (object held : ℕ) (u : Use) → ContainsAt uses u → excluded m object held u ≡ true → ceiling m uses object held ≤ u.task
 ceiling_at_most m [] object held u i x = absurd (has_none u i)
 ceiling_at_most m (v ∷ vs) object held u i x = elim (has_cases v vs u i) [
   | inl e ↦ rw (cond-true (excluded m object held v) (min v.task (ceiling m vs object held)) (ceiling m vs object held) (ap (excluded m object held) e ∙ x)) (omega (arith, ap (λ (y : Use). y.task) e))
@@ -71,11 +71,11 @@ ceiling_at_most m (v ∷ vs) object held u i x = elim (has_cases v vs u i) [
 
 module _ (setup : Setup) (cells : List ℤ) (start s : State) (line : List Event) (made : Started setup cells start) (line_to : Line setup start line s) where
   -- every holder is open
-  pub open_holders : (r : LockRecord) → Has s.locks r → is_open (standing_at s.tasks r.task) ≡ true
+  pub open_holders : (r : LockRecord) → ContainsAt s.locks r → is_open (standing_at s.tasks r.task) ≡ true
   open_holders r i = ap is_open ((kept setup cells start s line made line_to).sound.holder_ready r i)
 
   -- a lock of a lower task does not clash with that of a higher one on the same object
-  pub no_clash : (p q : LockRecord) → Has s.locks p → Has s.locks q → q.task < p.task → p.object ≡ q.object → setup.rule.clashes p.mode q.mode ≡ false
+  pub no_clash : (p q : LockRecord) → ContainsAt s.locks p → ContainsAt s.locks q → q.task < p.task → p.object ≡ q.object → setup.rule.clashes p.mode q.mode ≡ false
   no_clash p q ip iq l same = elim (cases_Bool (setup.rule.clashes p.mode q.mode)) [
     | inr f ↦ f
     | inl t ↦ (let sound = (kept setup cells start s line made line_to).sound in
@@ -88,14 +88,14 @@ module _ (setup : Setup) (cells : List ℤ) (start s : State) (line : List Event
   ]
 
   -- the mode of a lock is there
-  mode_there : (r : LockRecord) → Has s.locks r → r.mode < setup.rule.modes
+  mode_there : (r : LockRecord) → ContainsAt s.locks r → r.mode < setup.rule.modes
   mode_there r i =
       let plan = (kept setup cells start s line made line_to).sound.planned r i in
       let limits = all-has (UseLimits setup.rule setup.plan) setup.plan.uses plan.entry made.limits.uses_keep plan.listed in
       omega (arith, limits.mode_there, plan.of_mode)
 
   -- locks held together by different tasks do not disturb each other
-  pub apart : Lawful setup.rule → (p q : LockRecord) → Has s.locks p → Has s.locks q → (p.task ≡ q.task → ⊥) → p.object ≡ q.object → (part : ℕ) → setup.rule.writes p.mode part ≡ true → touches setup.rule q.mode part ≡ false
+  pub apart : Lawful setup.rule → (p q : LockRecord) → ContainsAt s.locks p → ContainsAt s.locks q → (p.task ≡ q.task → ⊥) → p.object ≡ q.object → (part : ℕ) → setup.rule.writes p.mode part ≡ true → touches setup.rule q.mode part ≡ false
   apart lawful p q ip iq other same part w = elim (cases_order p.task q.task) [
     | inl e ↦ absurd (other e)
     | inr o ↦ elim o [
@@ -118,11 +118,11 @@ module _ (setup : Setup) (cells : List ℤ) (start s : State) (line : List Event
       from (Waiting h) e = absurd (nobody_ready s.tasks nobody h (awaited_ready (kept setup cells start s line made line_to).sound i h e))
 
   -- a running task that holds locks holds the newest record
-  pub newest_own : (j : ℕ) (held newest : LockRecord) (older : List LockRecord) → running s.tasks ≡ Some j → Has s.locks held → held.task ≡ j → s.locks ≡ older ++ (newest ∷ []) → newest.task ≡ j
+  pub newest_own : (j : ℕ) (held newest : LockRecord) (older : List LockRecord) → running s.tasks ≡ Some j → ContainsAt s.locks held → held.task ≡ j → s.locks ≡ older ++ (newest ∷ []) → newest.task ≡ j
   newest_own j held newest older run i own e =
       let sound = (kept setup cells start s line made line_to).sound in
-      let high = runs_highest sound j newest (runs s.tasks j run) (subst (λ ls. Has ls newest) (sym e) (has_push older newest)) in
-      elim (pairs_newest NotLower older newest held (subst (Pairs NotLower) e sound.by_priority) (subst (λ ls. Has ls held) e i)) [
+      let high = runs_highest sound j newest (runs s.tasks j run) (subst (λ ls. ContainsAt ls newest) (sym e) (has_push older newest)) in
+      elim (pairs_newest NotLower older newest held (subst (Pairs NotLower) e sound.by_priority) (subst (λ ls. ContainsAt ls held) e i)) [
         | inl le ↦ omega arith
         | inr same ↦ ap (λ (r : LockRecord). r.task) same ∙ own
       ]

@@ -1,6 +1,6 @@
 -- What every call keeps of deeds, images and cells: each open task's deeds replay, and the cells with the journal put back are what the closed instances leave.
 use Rattle.std.proofs.Common.{◌≡◌, ℕ, Bool, true, false, cond, not, eqb, List, [], ◌∷◌, ◌++◌, get_or, set, ℤ, pos, filter, sym, refl, ap, ◌∙◌, subst, inl, inr}
-use Rattle.std.specs.List.{ContainsAt as Has, AllByRecursion as All}
+use Rattle.std.specs.List.{ContainsAt, AllByRecursion}
 use Rattle.std.proofs.lemmas.List.{append-nil}
 use Rattle.std.proofs.lemmas.List.Elements.{filter-append}
 use Rattle.std.proofs.ByRecursion.{All-weaker, All-push}
@@ -31,9 +31,9 @@ abbrev pub others_images : ℕ → List Image → List Image
 others_images i journal = filter (λ n. not (own_image i n)) journal
 
 -- what holds of each element that passes holds of each that is kept
-all_kept_if : {X : Type 0} (p : X → Bool) (P : X → Type 0) (xs : List X) → All (λ x. p x ≡ true → P x) xs → All P (filter p xs)
+all_kept_if : {X : Type 0} (p : X → Bool) (P : X → Type 0) (xs : List X) → AllByRecursion (λ x. p x ≡ true → P x) xs → AllByRecursion P (filter p xs)
 all_kept_if p P [] h = tt
-all_kept_if p P (x ∷ xs) h = cond_both (p x) (x ∷ filter p xs) (filter p xs) (All P) (λ e. (h.0 e, all_kept_if p P xs h.1)) (λ e. all_kept_if p P xs h.1)
+all_kept_if p P (x ∷ xs) h = cond_both (p x) (x ∷ filter p xs) (filter p xs) (AllByRecursion P) (λ e. (h.0 e, all_kept_if p P xs h.1)) (λ e. all_kept_if p P xs h.1)
 
 -- a filter changes nothing before a narrower one
 kept_by_wider : {X : Type 0} (p q : X → Bool) → ((x : X) → p x ≡ true → q x ≡ true) → (xs : List X) → filter p (filter q xs) ≡ filter p xs
@@ -47,7 +47,7 @@ pub per_task : (P : ℕ → Type 0) (i : ℕ) → P i → ((k : ℕ) → (i ≡ 
 per_task P i here there k = elim (cases_eq i k) [ inl e ↦ subst P e here | inr d ↦ there k d ]
 
 -- where nothing can be said of an element there is none
-all_none : {X : Type 0} (xs : List X) → All (λ x. ⊥) xs → xs ≡ []
+all_none : {X : Type 0} (xs : List X) → AllByRecursion (λ x. ⊥) xs → xs ≡ []
 all_none [] h = refl
 all_none (x ∷ xs) h = absurd h.0
 
@@ -58,9 +58,9 @@ own_not i k n d e = not_from_false (own_image i n) (ne_eqb n.task i (λ f. d (sy
 -- what every call keeps: `log k` are the deeds of the open task k, `closed` those of the closed instances, `first` the cells that making left
 pub record Replaying (m : Meaning) (first : List ℤ) (locks : List LockRecord) (journal : List Image) (cells : List ℤ) (opened : ℕ → Bool) (log : ℕ → List Deed) (closed : List Deed) : Type 0 where
   -- each image is of a cell that its task may write
-  pub images : All (Writable m locks) journal
+  pub images : AllByRecursion (Writable m locks) journal
   -- each deed is of a cell that its task may read or write
-  pub touched : (k : ℕ) → opened k ≡ true → All (Touchable m locks k) (log k)
+  pub touched : (k : ℕ) → opened k ≡ true → AllByRecursion (Touchable m locks k) (log k)
   -- the deeds replay on the task's own images
   pub replays : (k : ℕ) → opened k ≡ true → Replays (log k) (own_images k journal) cells
   -- the cells with the journal put back are what the closed instances leave
@@ -70,7 +70,7 @@ pub record Replaying (m : Meaning) (first : List ℤ) (locks : List LockRecord) 
 
 module _ (m : Meaning) (first : List ℤ) {locks : List LockRecord} {journal : List Image} {cells : List ℤ} {opened : ℕ → Bool} {log : ℕ → List Deed} {closed : List Deed} (was : Replaying m first locks journal cells opened log closed) where
   -- a call that leaves deeds, images and cells as they are, and takes no lock away
-  pub replaying_still : (locks' : List LockRecord) (opened' : ℕ → Bool) (log' : ℕ → List Deed) → ((r : LockRecord) → Has locks r → Has locks' r) → ((k : ℕ) → opened' k ≡ true → opened k ≡ true) → ((k : ℕ) → log' k ≡ log k) → Replaying m first locks' journal cells opened' log' closed
+  pub replaying_still : (locks' : List LockRecord) (opened' : ℕ → Bool) (log' : ℕ → List Deed) → ((r : LockRecord) → ContainsAt locks r → ContainsAt locks' r) → ((k : ℕ) → opened' k ≡ true → opened k ≡ true) → ((k : ℕ) → log' k ≡ log k) → Replaying m first locks' journal cells opened' log' closed
   replaying_still locks' opened' log' stay before same = record {
     images = All-weaker (Writable m locks) (Writable m locks') (λ n w. reaches_more locks' w (λ r e. stay r)) journal was.images;
     touched = λ k o. rw (same k) (All-weaker (Touchable m locks k) (Touchable m locks' k) (λ d t. reaches_more locks' t (λ r e. stay r)) (log k) (was.touched k (before k o)));
@@ -88,7 +88,7 @@ module _ (m : Meaning) (first : List ℤ) {locks : List LockRecord} {journal : L
   pub replaying_arrive : (i : ℕ) (opened' : ℕ → Bool) (log' : ℕ → List Deed) → ((cell : ℕ) → Reaches m.writes locks i cell → ⊥) → ((k : ℕ) → (i ≡ k → ⊥) → opened' k ≡ true → opened k ≡ true) → log' i ≡ [] → ((k : ℕ) → (i ≡ k → ⊥) → log' k ≡ log k) → Replaying m first locks journal cells opened' log' closed
   replaying_arrive i opened' log' none before anew same = record {
     images = was.images;
-    touched = per_task (λ k. opened' k ≡ true → All (Touchable m locks k) (log' k)) i (λ o. rw anew tt) (λ k d o. rw (same k d) (was.touched k (before k d o)));
+    touched = per_task (λ k. opened' k ≡ true → AllByRecursion (Touchable m locks k) (log' k)) i (λ o. rw anew tt) (λ k d o. rw (same k d) (was.touched k (before k d o)));
     replays = per_task (λ k. opened' k ≡ true → Replays (log' k) (own_images k journal) cells) i (λ o. rw (anew, no_image i none) (replays_none cells)) (λ k d o. rw (same k d) (was.replays k (before k d o)));
     base = was.base;
     agree = was.agree;
@@ -98,7 +98,7 @@ module _ (m : Meaning) (first : List ℤ) {locks : List LockRecord} {journal : L
   pub replaying_read : (i cell : ℕ) (log' : ℕ → List Deed) → Reaches m.reads locks i cell → log' i ≡ log i ++ (got cell (get_or cells cell (pos 0)) ∷ []) → ((k : ℕ) → (i ≡ k → ⊥) → log' k ≡ log k) → Replaying m first locks journal cells opened log' closed
   replaying_read i cell log' may more same = record {
     images = was.images;
-    touched = per_task (λ k. opened k ≡ true → All (Touchable m locks k) (log' k)) i
+    touched = per_task (λ k. opened k ≡ true → AllByRecursion (Touchable m locks k) (log' k)) i
         (λ o. rw more (All-push (Touchable m locks i) (log i) (got cell (get_or cells cell (pos 0))) (was.touched i o) (reads_touches m may)))
         (λ k d o. rw (same k d) (was.touched k o));
     replays = per_task (λ k. opened k ≡ true → Replays (log' k) (own_images k journal) cells) i (λ o. rw more (replays_read (log i) (own_images i journal) cells cell (was.replays i o))) (λ k d o. rw (same k d) (was.replays k o));
@@ -120,22 +120,22 @@ module _ (m : Meaning) (first : List ℤ) {locks : List LockRecord} {journal : L
       locks' : List LockRecord
       locks' = filter (λ r. not (own_lock i r)) locks
 
-      stays : (k : ℕ) → (i ≡ k → ⊥) → (r : LockRecord) → r.task ≡ k → Has locks r → Has locks' r
+      stays : (k : ℕ) → (i ≡ k → ⊥) → (r : LockRecord) → r.task ≡ k → ContainsAt locks r → ContainsAt locks' r
       stays k d r e h = kept_has (λ l. not (own_lock i l)) locks r h (not_from_false (own_lock i r) (ne_eqb r.task i (λ f. d (sym f ∙ e))))
 
   module _ (apart : Apart m locks) where
     -- another task has no image of a cell that a task may write
-    foreign_images : (i cell : ℕ) (p : Image → Bool) → Reaches m.writes locks i cell → ((n : Image) → p n ≡ true → i ≡ n.task → ⊥) → (images : List Image) → All (Writable m locks) images → NoImage (filter p images) cell
+    foreign_images : (i cell : ℕ) (p : Image → Bool) → Reaches m.writes locks i cell → ((n : Image) → p n ≡ true → i ≡ n.task → ⊥) → (images : List Image) → AllByRecursion (Writable m locks) images → NoImage (filter p images) cell
     foreign_images i cell p w other images h = all_kept_if p (λ n. n.cell ≡ cell → ⊥) images
         (All-weaker (Writable m locks) (λ n. p n ≡ true → n.cell ≡ cell → ⊥) (λ n v e at. apart i n.task cell (other n e) w (writes_touches m (subst (Reaches m.writes locks n.task) at v))) images h)
 
     -- and no deed
-    foreign_deeds : (i k cell : ℕ) → Reaches m.writes locks i cell → (i ≡ k → ⊥) → (ds : List Deed) → All (Touchable m locks k) ds → NoDeed ds cell
+    foreign_deeds : (i k cell : ℕ) → Reaches m.writes locks i cell → (i ≡ k → ⊥) → (ds : List Deed) → AllByRecursion (Touchable m locks k) ds → NoDeed ds cell
     foreign_deeds i k cell w other ds h =
         All-weaker (Touchable m locks k) (λ d. deed_cell d ≡ cell → ⊥) (λ d t at. apart i k cell other w (subst (Reaches (touches m) locks k) at t)) ds h
 
     -- the images of a task are of other cells than those of the others
-    parted : (i : ℕ) (images : List Image) → All (Writable m locks) images → Parted (own_image i) images
+    parted : (i : ℕ) (images : List Image) → AllByRecursion (Writable m locks) images → Parted (own_image i) images
     parted i [] h = tt
     parted i (n ∷ images) h = (λ e. foreign_images n.task n.cell (λ l. not (own_image i l)) h.0 (λ l f at. eqb-false l.task i (not-true (own_image i l) f) (sym at ∙ eqb-true n.task i e)) images h.1, parted i images h.1)
 
@@ -143,7 +143,7 @@ module _ (m : Meaning) (first : List ℤ) {locks : List LockRecord} {journal : L
     pub replaying_write : (i cell : ℕ) (v : ℤ) (log' : ℕ → List Deed) → Reaches m.writes locks i cell → log' i ≡ log i ++ (put cell v ∷ []) → ((k : ℕ) → (i ≡ k → ⊥) → log' k ≡ log k) → Replaying m first locks (journal ++ (record { task = i; cell = cell; old = get_or cells cell (pos 0) } ∷ [])) (set cells cell v) opened log' closed
     replaying_write i cell v log' may more same = record {
       images = All-push (Writable m locks) journal image was.images may;
-      touched = per_task (λ k. opened k ≡ true → All (Touchable m locks k) (log' k)) i
+      touched = per_task (λ k. opened k ≡ true → AllByRecursion (Touchable m locks k) (log' k)) i
           (λ o. rw more (All-push (Touchable m locks i) (log i) (put cell v) (was.touched i o) (writes_touches m may)))
           (λ k d o. rw (same k d) (was.touched k o));
       replays = per_task (λ k. opened k ≡ true → Replays (log' k) (own_images k (journal ++ (image ∷ []))) (set cells cell v)) i
@@ -177,7 +177,7 @@ module _ (m : Meaning) (first : List ℤ) {locks : List LockRecord} {journal : L
         start : done closed first ≡ put_back others (put_back own cells)
         start = sym (put_back_parted (own_image i) journal cells (parted i journal was.images) ∙ was.base)
 
-        untouched : All (λ (n : Image). NoDeed (log i) n.cell) others
+        untouched : AllByRecursion (λ (n : Image). NoDeed (log i) n.cell) others
         untouched = all_kept_if (λ n. not (own_image i n)) (λ n. NoDeed (log i) n.cell) journal
             (All-weaker (Writable m locks) (λ n. not (own_image i n) ≡ true → NoDeed (log i) n.cell) (λ n w e. foreign_deeds n.task i n.cell w (eqb-false n.task i (not-true (own_image i n) e)) (log i) (was.touched i is_open)) journal was.images)
 
@@ -188,7 +188,7 @@ module _ (m : Meaning) (first : List ℤ) {locks : List LockRecord} {journal : L
         (put_back_parted (own_image i) journal cells (parted i journal was.images) ∙ was.base)
         was.agree
       where
-        untouched : (k : ℕ) → (i ≡ k → ⊥) → opened k ≡ true → All (λ (n : Image). NoDeed (log k) n.cell × NoImage (own_images k journal) n.cell) (own_images i journal)
+        untouched : (k : ℕ) → (i ≡ k → ⊥) → opened k ≡ true → AllByRecursion (λ (n : Image). NoDeed (log k) n.cell × NoImage (own_images k journal) n.cell) (own_images i journal)
         untouched k d o = all_kept_if (own_image i) (λ n. NoDeed (log k) n.cell × NoImage (own_images k journal) n.cell) journal
             (All-weaker (Writable m locks) (λ n. own_image i n ≡ true → NoDeed (log k) n.cell × NoImage (own_images k journal) n.cell)
             (λ n w e. let other = (λ (f : n.task ≡ k). d (sym (eqb-true n.task i e) ∙ f)) in

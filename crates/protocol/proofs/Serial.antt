@@ -1,6 +1,6 @@
 -- The closed instances, run whole in the order of their closes, leave the cells that a line leaves, and answer as it did.
 use Rattle.std.proofs.Common.{◌≡◌, ℕ, Bool, true, false, cond, ◌&&◌, eqb, List, [], ◌∷◌, ◌++◌, get_or, ℤ, pos, Some, sym, refl, ap, ◌∙◌, subst, inl, inr, arith}
-use Rattle.std.specs.List.{ContainsAt as Has}
+use Rattle.std.specs.List.{ContainsAt}
 use Rattle.std.proofs.lemmas.List.{append-nil}
 use Rattle.std.proofs.ByRecursion.{has_append_left}
 use Rattle.std.proofs.lemmas.Bool.{cond_both, cond-true, cond-false, both_ways, eq-eqb, ne_eqb, and_from, and_left, and_right}
@@ -95,9 +95,9 @@ refused_serial Tick why line = append-nil (serial line)
 abbrev Replayed : Setup → List ℤ → List Event → State → Type 0
 Replayed setup first line s = Replaying setup.rule first s.locks s.journal s.cells (open_at s.tasks) (λ k. deeds k line) (serial line)
 
-module _ (setup : Setup) (first : List ℤ) (line : List Event) (s : State) (apart : Apart setup.rule s.locks) (holders : (r : LockRecord) → Has s.locks r → open_at s.tasks r.task ≡ true) (was : Replayed setup first line s) where
+module _ (setup : Setup) (first : List ℤ) (line : List Event) (s : State) (apart : Apart setup.rule s.locks) (holders : (r : LockRecord) → ContainsAt s.locks r → open_at s.tasks r.task ≡ true) (was : Replayed setup first line s) where
   -- a call that adds no deed and closes nothing, and takes no lock away
-  still : (tasks : List Task) (locks : List LockRecord) → ((r : LockRecord) → Has s.locks r → Has locks r) → ((k : ℕ) → open_at tasks k ≡ true → open_at s.tasks k ≡ true) → Replaying setup.rule first locks s.journal s.cells (open_at tasks) (λ k. deeds k line ++ []) (serial line ++ [])
+  still : (tasks : List Task) (locks : List LockRecord) → ((r : LockRecord) → ContainsAt s.locks r → ContainsAt locks r) → ((k : ℕ) → open_at tasks k ≡ true → open_at s.tasks k ≡ true) → Replaying setup.rule first locks s.journal s.cells (open_at tasks) (λ k. deeds k line ++ []) (serial line ++ [])
   still tasks locks stay before = rw (append-nil (serial line)) (replaying_still setup.rule first was locks (open_at tasks) (λ k. deeds k line ++ []) stay before (λ k. append-nil (deeds k line)))
 
   -- every outcome keeps it

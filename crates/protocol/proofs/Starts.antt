@@ -1,6 +1,6 @@
 -- What making leaves in the cells, and that no call changes how many there are.
 use Rattle.std.proofs.Common.{◌≡◌, ℕ, zero, suc, ◌+◌, ◌-◌, ◌*◌, ◌<◌, ◌≤◌, List, [], ◌∷◌, ◌++◌, length, get_or, drop, ℤ, pos, filter, sym, refl, ap, ◌∙◌, ap₂, arith}
-use Rattle.std.specs.List.{flat_map, AllByRecursion as All}
+use Rattle.std.specs.List.{flat_map, AllByRecursion}
 use Rattle.std.proofs.lemmas.List.{append_assoc, length-set, length-drop, length-append, get_or_append_left, get_or-append-add, get_or-drop}
 use Rattle.plans.specs.Limits.{ObjectLimits}
 use Rattle.plans.specs.declared.parts.Object.{Object}
@@ -43,12 +43,12 @@ abbrev starts_of : Object → List ℤ
 starts_of o = o.start
 
 -- there are four for each object
-length_starts : (objects : List Object) → All ObjectLimits objects → length (flat_map starts_of objects) ≡ 4 * length objects
+length_starts : (objects : List Object) → AllByRecursion ObjectLimits objects → length (flat_map starts_of objects) ≡ 4 * length objects
 length_starts [] h = refl
 length_starts (o ∷ os) h = let four = h.0.four in let rest = length_starts os h.1 in length-append o.start (flat_map starts_of os) ∙ omega arith
 
 -- they stand one object after the other
-starts_at : (objects : List Object) (rest : List ℤ) → All ObjectLimits objects → (o p : ℕ) (d : Object) → o < length objects → p < 4 → get_or (flat_map starts_of objects ++ rest) (cell_of o p) (pos 0) ≡ get_or (get_or objects o d).start p (pos 0)
+starts_at : (objects : List Object) (rest : List ℤ) → AllByRecursion ObjectLimits objects → (o p : ℕ) (d : Object) → o < length objects → p < 4 → get_or (flat_map starts_of objects ++ rest) (cell_of o p) (pos 0) ≡ get_or (get_or objects o d).start p (pos 0)
 starts_at [] rest h o p d l small = absurd (omega arith)
 starts_at (x ∷ os) rest h zero p d l small =
     let four = h.0.four in

@@ -1,6 +1,6 @@
 -- What a call can come to: one constructor for each outcome, with plain facts, and the lemma that every call is one of them.
 use Rattle.std.proofs.Common.{◌≡◌, ℕ, ◌<◌, Bool, true, false, cond, not, ◌&&◌, ltb, ◌⊎◌, List, [], ◌∷◌, ◌++◌, length, get_or, set, ℤ, pos, Some, None, filter, Option, sym, refl, ap, ◌∙◌, inl, inr, arith}
-use Rattle.std.specs.List.{ContainsAt as Has}
+use Rattle.std.specs.List.{ContainsAt}
 use Rattle.std.proofs.lemmas.Bool.{cond_both, false≢true, not-false, eqb-true, ltb-true}
 use Rattle.rules.specs.Meaning.{is_part}
 use Rattle.plans.specs.Contents.{budget_of}
@@ -42,7 +42,7 @@ or_else_none None false task e = (refl, refl)
 or_else_none (Some g) x task e = let z : ◌≡◌ {A = ℕ} 0 1 = cc in absurd (omega arith)
 
 -- where there is a newest record that passes, one does, and it is that task's
-pub newest_some : (p : LockRecord → Bool) (rs : List LockRecord) (h : ℕ) → newest_task p rs ≡ Some h → (b : LockRecord) × Has rs b × (b.task ≡ h) × (p b ≡ true)
+pub newest_some : (p : LockRecord → Bool) (rs : List LockRecord) (h : ℕ) → newest_task p rs ≡ Some h → (b : LockRecord) × ContainsAt rs b × (b.task ≡ h) × (p b ≡ true)
 newest_some p [] h e = let z : ◌≡◌ {A = ℕ} 0 1 = cc in absurd (omega arith)
 newest_some p (r ∷ rs) h e = elim (or_else_some (newest_task p rs) (p r) r.task h e) [
   | inl n ↦ (let (b, i, own, t) = newest_some p rs h n in (b, has_there r rs b i, own, t))
@@ -50,7 +50,7 @@ newest_some p (r ∷ rs) h e = elim (or_else_some (newest_task p rs) (p r) r.tas
 ]
 
 -- where there is none, none passes
-pub newest_none : (p : LockRecord → Bool) (rs : List LockRecord) → newest_task p rs ≡ None → (r : LockRecord) → Has rs r → p r ≡ false
+pub newest_none : (p : LockRecord → Bool) (rs : List LockRecord) → newest_task p rs ≡ None → (r : LockRecord) → ContainsAt rs r → p r ≡ false
 newest_none p [] e r i = absurd (has_none r i)
 newest_none p (r ∷ rs) e x i =
     let n = or_else_none (newest_task p rs) (p r) r.task e in
@@ -64,10 +64,10 @@ pub data Step (setup : Setup) (s : State) : Call → Outcome → Type 0 where
   arrives : (task : ℕ) → task < length setup.plan.rows → standing_at s.tasks task ≡ Resting →
       Step setup s (Arrive task) (record { answer = Open; left = record { tasks = change (λ _. arrived) s.tasks task; locks = s.locks; journal = s.journal; cells = s.cells } })
   -- the caller is blocked by the lock b of task h
-  waits : (task object mode h : ℕ) (b : LockRecord) → running s.tasks ≡ Some task → any (is_use task object mode) setup.plan.uses ≡ true → any (is_record task object mode) s.locks ≡ false → Has s.locks b → b.task ≡ h → blocks setup task b ≡ true →
+  waits : (task object mode h : ℕ) (b : LockRecord) → running s.tasks ≡ Some task → any (is_use task object mode) setup.plan.uses ≡ true → any (is_record task object mode) s.locks ≡ false → ContainsAt s.locks b → b.task ≡ h → blocks setup task b ≡ true →
       Step setup s (Lock task object mode) (record { answer = Wait h; left = record { tasks = change (stand (Waiting h)) s.tasks task; locks = s.locks; journal = s.journal; cells = s.cells } })
   -- no lock blocks the caller
-  grants : (task object mode : ℕ) → running s.tasks ≡ Some task → any (is_use task object mode) setup.plan.uses ≡ true → any (is_record task object mode) s.locks ≡ false → ((b : LockRecord) → Has s.locks b → blocks setup task b ≡ false) → length s.locks < setup.lock_room →
+  grants : (task object mode : ℕ) → running s.tasks ≡ Some task → any (is_use task object mode) setup.plan.uses ≡ true → any (is_record task object mode) s.locks ≡ false → ((b : LockRecord) → ContainsAt s.locks b → blocks setup task b ≡ false) → length s.locks < setup.lock_room →
       Step setup s (Lock task object mode) (record { answer = Granted; left = record { tasks = s.tasks; locks = s.locks ++ (record { task = task; object = object; mode = mode } ∷ []); journal = s.journal; cells = s.cells } })
   reads : (task object part : ℕ) → running s.tasks ≡ Some task → may_read setup s task object part ≡ true →
       Step setup s (Read task object part) (record { answer = Value (get_or s.cells (cell_of object part) (pos 0)); left = s })

@@ -1,6 +1,6 @@
 -- What calls are answered: of which kind each answer is, what the next call in a state that was reached comes to, and what its acceptance tells. Assumes nothing.
 use Rattle.std.specs.Prelude.{◌≡◌, ℕ, ◌<◌, ◌≤◌, Bool, true, [], ◌∷◌, ◌++◌, length, ℤ, pos, Some, None, Option, ◌≢◌, slice_index_or}
-use Rattle.std.specs.List.{ContainsAt as Has}
+use Rattle.std.specs.List.{ContainsAt}
 use Rattle.plans.specs.Contents.{budget_of}
 use Rattle.plans.specs.declared.parts.Use.{Use}
 use Rattle.plans.specs.declared.refusal.Refusal.{Refusal}
@@ -31,15 +31,15 @@ pub data AnswerOf : Call → Answer → Type 0 where
 -- task i is blocked by task h, which holds a record whose ceiling is at most i
 pub record BlockedBy (setup : Setup) (s : State) (i h : ℕ) : Type 0 where
   pub lock : LockRecord
-  pub held : Has s.locks lock
+  pub held : ContainsAt s.locks lock
   pub own : lock.task ≡ h
   pub reaches : lock_ceiling setup lock ≤ i
 
 -- the running task asks for one of its uses, which it does not hold
 pub record Asks (setup : Setup) (s : State) (u : Use) : Type 0 where
-  pub listed : Has setup.plan.uses u
+  pub listed : ContainsAt setup.plan.uses u
   pub runs : running s.tasks ≡ Some u.task
-  pub not_held : (r : LockRecord) → Has s.locks r → r.task ≡ u.task → r.object ≡ u.object → r.mode ≢ u.mode
+  pub not_held : (r : LockRecord) → ContainsAt s.locks r → r.task ≡ u.task → r.object ≡ u.object → r.mode ≢ u.mode
 
 -- the call that asks for a use
 abbrev pub asking : Use → Call
@@ -64,13 +64,13 @@ pub record Answers (setup : Setup) (s : State) : Type 0 where
   -- so it is with a drop
   pub drop_dropped : (j : ℕ) → running s.tasks ≡ Some j → let o = step setup s (Drop j) in (o.answer ≡ Dropped (account_of s j)) × (standing_at o.left.tasks j ≡ Resting)
   -- where another task's record has a ceiling at most the asker's number, the asker is told to wait for that task, and waits
-  pub blocked_waits : (u : Use) → Asks setup s u → (b : LockRecord) → Has s.locks b → (b.task ≢ u.task) → lock_ceiling setup b ≤ u.task → let o = step setup s (asking u) in (o.answer ≡ Wait b.task) × (standing_at o.left.tasks u.task ≡ Waiting b.task)
+  pub blocked_waits : (u : Use) → Asks setup s u → (b : LockRecord) → ContainsAt s.locks b → (b.task ≢ u.task) → lock_ceiling setup b ≤ u.task → let o = step setup s (asking u) in (o.answer ≡ Wait b.task) × (standing_at o.left.tasks u.task ≡ Waiting b.task)
   -- where none has, the lock is granted, as long as the lock stack has room, and its record is the newest
-  pub free_granted : (u : Use) → Asks setup s u → ((b : LockRecord) → Has s.locks b → (b.task ≢ u.task) → u.task < lock_ceiling setup b) → length s.locks < setup.lock_room → let o = step setup s (asking u) in (o.answer ≡ Granted) × (o.left.locks ≡ s.locks ++ (asked_record u ∷ []))
+  pub free_granted : (u : Use) → Asks setup s u → ((b : LockRecord) → ContainsAt s.locks b → (b.task ≢ u.task) → u.task < lock_ceiling setup b) → length s.locks < setup.lock_room → let o = step setup s (asking u) in (o.answer ≡ Granted) × (o.left.locks ≡ s.locks ++ (asked_record u ∷ []))
   -- the running task reads every part that a lock of its lets it read
-  pub read_value : (r : LockRecord) (part : ℕ) → running s.tasks ≡ Some r.task → Has s.locks r → setup.rule.reads r.mode part ≡ true → (step setup s (Read r.task r.object part)).answer ≡ Value (slice_index_or s.cells (cell_of r.object part) (pos 0))
+  pub read_value : (r : LockRecord) (part : ℕ) → running s.tasks ≡ Some r.task → ContainsAt s.locks r → setup.rule.reads r.mode part ≡ true → (step setup s (Read r.task r.object part)).answer ≡ Value (slice_index_or s.cells (cell_of r.object part) (pos 0))
   -- and writes every part that one lets it write, as long as the journal has room; the cell takes the value
-  pub write_written : (r : LockRecord) (part : ℕ) (v : ℤ) → running s.tasks ≡ Some r.task → Has s.locks r → setup.rule.writes r.mode part ≡ true → length s.journal < setup.journal_room → let o = step setup s (Write r.task r.object part v) in (o.answer ≡ Written) × (slice_index_or o.left.cells (cell_of r.object part) (pos 0) ≡ v)
+  pub write_written : (r : LockRecord) (part : ℕ) (v : ℤ) → running s.tasks ≡ Some r.task → ContainsAt s.locks r → setup.rule.writes r.mode part ≡ true → length s.journal < setup.journal_room → let o = step setup s (Write r.task r.object part v) in (o.answer ≡ Written) × (slice_index_or o.left.cells (cell_of r.object part) (pos 0) ≡ v)
 
 -- the task that a lock, a read, a write, a close or a drop names
 abbrev pub caller : Call → Option ℕ
@@ -85,7 +85,7 @@ caller Tick = None
 -- the task holds a lock of the object, in a mode that passes
 pub record Holds (s : State) (task object : ℕ) (mode_passes : ℕ → Bool) : Type 0 where
   pub lock : LockRecord
-  pub held : Has s.locks lock
+  pub held : ContainsAt s.locks lock
   pub own : lock.task ≡ task
   pub of_object : lock.object ≡ object
   pub lets : mode_passes lock.mode ≡ true
@@ -99,7 +99,7 @@ pub record Accepted (setup : Setup) (s : State) : Type 0 where
   -- an accepted lock, granted or to be waited for, is a use of the plan that the running task does not hold
   pub locker_asks : (u : Use) → accepted (step setup s (asking u)).answer ≡ true → Asks setup s u
   -- where a lock is granted, every record of another task has a ceiling past the asker's number, and the lock stack has room
-  pub granted_free : (u : Use) → (step setup s (asking u)).answer ≡ Granted → ((b : LockRecord) → Has s.locks b → (b.task ≢ u.task) → u.task < lock_ceiling setup b) × (length s.locks < setup.lock_room)
+  pub granted_free : (u : Use) → (step setup s (asking u)).answer ≡ Granted → ((b : LockRecord) → ContainsAt s.locks b → (b.task ≢ u.task) → u.task < lock_ceiling setup b) × (length s.locks < setup.lock_room)
   -- the task that the asker is told to wait for is lower, and holds a record whose ceiling is at most the asker's number
   pub wait_blocked : (u : Use) (h : ℕ) → (step setup s (asking u)).answer ≡ Wait h → (u.task < h) × BlockedBy setup s u.task h
   -- an accepted read answers the cell's value, and a lock of the reader lets it read the part

@@ -1,6 +1,6 @@
 -- The laws over a line of calls. docs/PROTOCOL.md has them in words, docs/WHY.md why they hold. Assumes nothing.
 use Rattle.std.specs.Prelude.{◌≡◌, ℕ, ◌*◌, ◌<◌, ◌≤◌, true, false, List, [], ◌∷◌, ◌++◌, length, get_or, ℤ, pos, Some, None, Option, ◌≢◌, slice_index_or}
-use Rattle.std.specs.List.{ContainsAt as Has, AllByRecursion as All}
+use Rattle.std.specs.List.{ContainsAt, AllByRecursion}
 use Rattle.rules.specs.Meaning.{Meaning, touches}
 use Rattle.plans.specs.Contents.{budget_of}
 use Rattle.plans.specs.Ceilings.{bound}
@@ -17,7 +17,7 @@ use Rattle.protocol.specs.Lines.{Event, Started, Line, count, begins, ends, told
 
 -- no accepted close or drop of the task is among these
 abbrev pub NoEnd : ℕ → List Event → Type 0
-NoEnd i members = All (λ e. ends i e ≡ false) members
+NoEnd i members = AllByRecursion (λ e. ends i e ≡ false) members
 
 -- what task i has seen of one instance: all members since its accepted arrive, or the older ones of them, and no end of it among these.
 -- As a line does, `during` stands newest first; at its longest it reaches the instance's end, or the line's.
@@ -70,7 +70,7 @@ pub record Laws (setup : Setup) (start : State) (line : List Event) (s : State) 
   -- where nobody runs, everybody rests
   pub somebody_runs : running s.tasks ≡ None → (i : ℕ) → standing_at s.tasks i ≡ Resting
   -- a running task that holds locks holds the newest record
-  pub newest_own : (j : ℕ) (held newest : LockRecord) (older : List LockRecord) → running s.tasks ≡ Some j → Has s.locks held → held.task ≡ j → s.locks ≡ older ++ (newest ∷ []) → newest.task ≡ j
+  pub newest_own : (j : ℕ) (held newest : LockRecord) (older : List LockRecord) → running s.tasks ≡ Some j → ContainsAt s.locks held → held.task ≡ j → s.locks ≡ older ++ (newest ∷ []) → newest.task ≡ j
   -- no task shows more ticks used than its budget
   pub in_budget : (i : ℕ) → (task_at s.tasks i).used ≤ budget_of setup.plan i
   -- in each instance a task is told to wait at most once
@@ -92,15 +92,15 @@ pub record Laws (setup : Setup) (start : State) (line : List Event) (s : State) 
   -- of two records of different tasks on one object, the newer is in no mode that clashes with the older, in the order held, wanted
   pub exclusion : (older between newer : List LockRecord) (held wanted : LockRecord) → s.locks ≡ older ++ (held ∷ (between ++ (wanted ∷ newer))) → (held.task ≢ wanted.task) → held.object ≡ wanted.object → setup.rule.clashes held.mode wanted.mode ≡ false
   -- and neither lets its task write a part that the other lets its task read or write
-  pub undisturbed : (p q : LockRecord) → Has s.locks p → Has s.locks q → (p.task ≢ q.task) → p.object ≡ q.object → (part : ℕ) → setup.rule.writes p.mode part ≡ true → touches setup.rule q.mode part ≡ false
+  pub undisturbed : (p q : LockRecord) → ContainsAt s.locks p → ContainsAt s.locks q → (p.task ≢ q.task) → p.object ≡ q.object → (part : ℕ) → setup.rule.writes p.mode part ≡ true → touches setup.rule q.mode part ≡ false
   -- a task waits for a lower one, which is ready, and which holds a record whose ceiling is at most the waiter's number
   pub why_waits : (i h : ℕ) → standing_at s.tasks i ≡ Waiting h → (i < h) × (standing_at s.tasks h ≡ Ready) × BlockedBy setup s i h
   -- no instance runs more ticks than its budget, by the count of its ticks in the line
   pub ticks_in_budget : (i : ℕ) (during : List Event) → Instance line i during → count (ticks i) during ≤ budget_of setup.plan i
   -- every accepted close or drop answers an account
-  pub ends_account : All (λ e. (i : ℕ) → ends i e ≡ true → (a : Account) × (account_in e.answer ≡ Some a)) line
+  pub ends_account : AllByRecursion (λ e. (i : ℕ) → ends i e ≡ true → (a : Account) × (account_in e.answer ≡ Some a)) line
   -- each answer is a refusal, or of its call's kind
-  pub of_kind : All (λ e. AnswerOf e.call e.answer) line
+  pub of_kind : AllByRecursion (λ e. AnswerOf e.call e.answer) line
   -- making gave the objects' cells their start values, and left the others
   pub start_values : (given : List ℤ) → Started setup given start → StartValues setup given start.cells
   -- no call changes how many cells there are

@@ -1,6 +1,6 @@
 -- No report is longer than a page. Assumes nothing.
 use Rattle.std.proofs.Common.{◌≡◌, ℕ, zero, suc, ◌+◌, ◌-◌, ◌*◌, ◌^◌, ◌<◌, ◌≤◌, eqb, List, ◌∷◌, ◌++◌, length, get_or, drop, replicate, pos, Some, None, Ok, Err, codes, decimal, Option, Result, refl, suc-mul, arith, lit≤, w32, SFits}
-use Rattle.std.specs.List.{range_with_len, flat_map, ContainsAt as Has}
+use Rattle.std.specs.List.{range_with_len, flat_map, ContainsAt}
 use Rattle.std.specs.Fmt.{signed_decimal}
 use Rattle.std.proofs.lemmas.Fmt.{length-decimal-le}
 use Rattle.std.proofs.ByRecursion.{All-get_or, all-has}
@@ -69,7 +69,7 @@ module _ (m : Meaning) (plan : Contents) (keep : Limits m plan) (few_modes : m.m
   uses : List Use
   uses = plan.uses
 
-  there : (u : Use) → Has plan.uses u → UseLimits m plan u
+  there : (u : Use) → ContainsAt plan.uses u → UseLimits m plan u
   there u has = all-has (UseLimits m plan) plan.uses u keep.uses_keep has
 
   want_short : (object mode : ℕ) (reason : Option Use) → CeilingLaw m plan.uses object mode (ceiling m plan.uses object mode) reason → length (ceiling_because reason) ≤ 40

@@ -1,7 +1,7 @@
 -- The lines of a sheet, and what it means to write at a place. docs/TAPE.md has the format. Assumes nothing.
 use Rattle.std.specs.Prelude.{◌≡◌, ℕ, ◌+◌, ◌^◌, ◌<◌, ◌≤◌, List, [], ◌∷◌, ◌++◌, length, take, drop, pos, negsuc, Some, None, codes, decimal, Option, FitsSigned, slice_index}
 use Rattle.std.specs.Int.{w32}
-use Rattle.std.specs.Str.Parse.{IsNumeral, digits_value as value}
+use Rattle.std.specs.Str.Parse.{IsNumeral, digits_value}
 use Rattle.std.specs.Fmt.{signed_decimal}
 use Rattle.plans.specs.Refusals.{number_of}
 use Rattle.plans.specs.declared.refusal.Refusal.TheVariants.{BudgetSpent}
@@ -67,7 +67,7 @@ pub record SheetLaws : Type 0 where
   -- no line is longer than 32 bytes
   pub short : (answer : Answer) (running : Option ℕ) → Within answer → TaskWithin running → length (sheet_line answer running) ≤ 32
   -- what stands for a number are digits, and they are read as that number again
-  pub back : (n : ℕ) → n < 2 ^ 64 → IsNumeral 10 (decimal n) × (value 10 (decimal n) ≡ n)
+  pub back : (n : ℕ) → n < 2 ^ 64 → IsNumeral 10 (decimal n) × (digits_value 10 (decimal n) ≡ n)
   -- no number begins with a zero, but 0 itself
   pub leading : (n : ℕ) → 0 < n → n < 2 ^ 64 → 48 < slice_index (decimal n) 0
 

@@ -1,6 +1,6 @@
 -- A tape splits into its lines. Assumes nothing.
 use Rattle.std.proofs.Common.{◌≡◌, ℕ, suc, ◌+◌, ◌-◌, ◌<◌, ◌≤◌, cond, not, eqb, List, [], ◌∷◌, ◌++◌, length, get_or, take, drop, Some, None, Option, sym, refl, ap, ◌∙◌, inl, inr, add-one, arith}
-use Rattle.std.specs.List.{flat_map, AllByRecursion as All}
+use Rattle.std.specs.List.{flat_map, AllByRecursion}
 use Rattle.std.proofs.lemmas.List.{at_drop_more, drop_all, drop-drop, length-drop, length-take-le}
 use Rattle.std.proofs.lemmas.Bool.{lt-ltb, eq-eqb, ne_eqb, eqb-true, eqb-false, cases_Bool, cases_lt, cond_both}
 use Rattle.protocol.specs.declared.words.Call.{Call}
@@ -103,21 +103,21 @@ whole (byte ∷ (next ∷ tape)) =
     ]
 
 abbrev NoEnd : List ℕ → Type 0
-NoEnd line = All (λ byte. byte ≡ 10 → ⊥) line
+NoEnd line = AllByRecursion (λ byte. byte ≡ 10 → ⊥) line
 
-apart_onto : (byte : ℕ) (all : List (List ℕ)) → (byte ≡ 10 → ⊥) → All NoEnd all → All NoEnd (onto byte all)
+apart_onto : (byte : ℕ) (all : List (List ℕ)) → (byte ≡ 10 → ⊥) → AllByRecursion NoEnd all → AllByRecursion NoEnd (onto byte all)
 apart_onto byte [] other h = ((other, tt), tt)
 apart_onto byte (line ∷ more) other h = ((other, h.0), h.1)
 
-apart : (tape : List ℕ) → All NoEnd (lines tape)
+apart : (tape : List ℕ) → AllByRecursion NoEnd (lines tape)
 apart [] = tt
-apart (byte ∷ tape) = cond_both (eqb byte 10) ([] ∷ lines tape) (onto byte (lines tape)) (All NoEnd) (λ is. (tt, apart tape)) (λ other. apart_onto byte (lines tape) (eqb-false byte 10 other) (apart tape))
+apart (byte ∷ tape) = cond_both (eqb byte 10) ([] ∷ lines tape) (onto byte (lines tape)) (AllByRecursion NoEnd) (λ is. (tt, apart tape)) (λ other. apart_onto byte (lines tape) (eqb-false byte 10 other) (apart tape))
 
 stands : (tape line : List ℕ) (place : ℕ) (o : Option Call) → take (length line) (drop place tape) ≡ line → InPlace tape (said line place o)
 stands tape line place (Some c) e = tt
 stands tape line place None e = e
 
-in_place : (tape : List ℕ) (place : ℕ) (all : List (List ℕ)) → lines (drop place tape) ≡ all → All (InPlace tape) (entries place all)
+in_place : (tape : List ℕ) (place : ℕ) (all : List (List ℕ)) → lines (drop place tape) ≡ all → AllByRecursion (InPlace tape) (entries place all)
 in_place tape place [] e = tt
 in_place tape place (line ∷ more) e =
     elim (cases_lt place (length tape)) [

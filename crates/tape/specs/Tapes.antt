@@ -1,6 +1,6 @@
 -- How a tape splits into lines, and what its lines say at their places. docs/TAPE.md has the format. Assumes nothing.
 use Rattle.std.specs.Prelude.{◌≡◌, ℕ, suc, ◌+◌, ◌-◌, Bool, cond, not, ◌&&◌, List, [], ◌∷◌, ◌++◌, length, take, drop, Some, None, Option, ◌==◌, ◌≢◌, nat_lt, slice_index}
-use Rattle.std.specs.List.{flat_map, AllByRecursion as All}
+use Rattle.std.specs.List.{flat_map, AllByRecursion}
 use Rattle.protocol.specs.declared.words.Call.{Call}
 use Rattle.tape.specs.Lines.{read_line}
 
@@ -49,5 +49,5 @@ pub record Splits (tape : List ℕ) : Type 0 where
   -- the lines with their ends put together are the tape again
   pub whole : flat_map (λ line. line ++ (10 ∷ [])) (lines tape) ≡ with_end tape
   -- no line holds a line end
-  pub apart : All (All (λ byte. byte ≢ 10)) (lines tape)
-  pub in_place : All (InPlace tape) (entries 0 (lines tape))
+  pub apart : AllByRecursion (AllByRecursion (λ byte. byte ≢ 10)) (lines tape)
+  pub in_place : AllByRecursion (InPlace tape) (entries 0 (lines tape))
