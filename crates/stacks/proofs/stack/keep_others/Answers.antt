@@ -1,7 +1,7 @@
 -- One record more is kept or passed over.
-use Rattle.std.proofs.Common.{◌≡◌, ◌<◌, not, eqb, length, filter, sym, ap, ◌∙◌, arith}
+use Rattle.std.proofs.lemmas.Grind.{common_steps}
+use Rattle.std.proofs.Common.{true, false, ◌≡◌, ◌<◌, not, eqb, length, filter, ap, ◌∙◌, arith}
 use Rattle.std.proofs.lemmas.List.Filters.{FiltersInPlace-more_no, FiltersInPlace-more_set}
-use Rattle.std.proofs.lemmas.Bool.{eq-eqb, ne_eqb, not_from_true, not_from_false}
 use Rattle.stacks.proofs.Stacks.{take_min}
 use Rattle.stacks.proofs.stack.keep_others.Goals as goal
 use Rattle.stacks.proofs.stack.keep_others.Goals.{then-owner-task, else-owner-task}
@@ -10,8 +10,8 @@ pub loop-i-preserved : goal.loop-i-preserved
 loop-i-preserved g c =
     let inside : c.loop-i.i < length c.loop-i.slots = omega arith in
     elim c.if-owner-task.branch [
-      | then-owner-task w ↦ rw (w.slots-is, w.next-is) (FiltersInPlace-more_set c.loop-i.invariant inside (not_from_false _ (ne_eqb _ _ (λ e. w.if-owner-task.true (c.owner.ensures ∙ e)))) c.index-slots-i.is)
-      | else-owner-task w ↦ rw (w.slots-is, w.next-is) (FiltersInPlace-more_no c.loop-i.invariant inside (not_from_true _ (eq-eqb _ _ (sym c.owner.ensures ∙ w.if-owner-task.false))) c.index-slots-i.is)
+      | then-owner-task w ↦ let kept : not (eqb (g.T.Owned.owner c.index-slots-i.result) c.args.task) ≡ true = grind (arith, common_steps) in rw (w.slots-is, w.next-is) (FiltersInPlace-more_set c.loop-i.invariant inside kept c.index-slots-i.is)
+      | else-owner-task w ↦ let passed : not (eqb (g.T.Owned.owner c.index-slots-i.result) c.args.task) ≡ false = grind (arith, common_steps) in rw (w.slots-is, w.next-is) (FiltersInPlace-more_no c.loop-i.invariant inside passed c.index-slots-i.is)
     ]
 
 pub returns : goal.returns

@@ -1,8 +1,8 @@
 -- The last of the records in use.
-use Rattle.std.proofs.Common.{ap, ◌∙◌}
-use Rattle.stacks.specs.Stacks.{last_of}
+use Rattle.std.proofs.Common.{arith}
+use Rattle.std.proofs.lemmas.Grind.{common_steps}
 use Rattle.stacks.proofs.Stacks.{newest_is}
 use Rattle.stacks.proofs.stack.Stack.newest.Goals as goal
 
 pub returns : goal.returns
-returns g c = c.copied.ensures ∙ (newest_is c.as_slice.result.now c.last.result c.last.ensures.item ∙ ap last_of c.as_slice.ensures)
+returns g c = grind (arith, common_steps, newest_is)
