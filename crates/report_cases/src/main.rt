@@ -121,16 +121,22 @@ fn show_longest(rt: &HostRuntime) -> io::Result<()> {
     let text = page.as_slice();
     let length = text.len();
     println!(rt; "{length} bytes, and at their end:")?;
-    rt.stdout().write_all(last_line(text))
+    rt.stdout().write_all(last_line(text))?;
+    compare(rt, &input, &report_on(rt.alloc(), &input)?)
+}
+
+// Says so where the report on a page is another than this one.
+fn compare(rt: &HostRuntime, input: &[u8], text: &str) -> io::Result<()> {
+    if page_on(input).as_slice() != text.as_bytes() {
+        println!(rt; "the page says otherwise")?;
+    }
+    Ok(())
 }
 
 fn show(rt: &HostRuntime, input: &[u8]) -> io::Result<()> {
     let text = report_on(rt.alloc(), input)?;
     print!(rt; "{text}")?;
-    if page_on(input).as_slice() != text.as_bytes() {
-        println!(rt; "the page says otherwise")?;
-    }
-    Ok(())
+    compare(rt, input, &text)
 }
 
 fn main(rt: HostRuntime) -> io::Result<()> {
