@@ -3,7 +3,7 @@
 
     tools/respell.py [--try]
 
-Run once, at the top, right after /opt/rattle/port/port.py. Own names are what specs/ and proofs/ declare: definitions,
+Run once, at the top, right after the kit's own port.py. Own names are what specs/ and proofs/ declare: definitions,
 lemmas, fields, constructors, and what they bind. Names that the library declares, and those that Rattle makes for the
 goals and the steps of a proof, keep their hyphens. Texts in quotes and comments keep their words. With --try it only says
 which names would fall together: a name that it makes and that stood in the same file before, or the same made of two.
@@ -13,7 +13,6 @@ import re
 import sys
 
 ROOT = pathlib.Path(__file__).resolve().parent.parent
-KIT = pathlib.Path("/opt/rattle")
 NAME = r"[^\W\d][\w'′₀-₉]*(?:-[\w'′₀-₉]+)+"
 WORD = re.compile(r"(?<![\w\-'·◌])" + NAME + r"(?![\w\-◌])")
 PLAIN = re.compile(r"[^\W\d][\w'′₀-₉]*")
@@ -112,16 +111,6 @@ def main():
         if not only_try and "".join(out) != text:
             file.write_text("".join(out))
     print(len(count), "names")
-    if only_try:
-        left = {}
-        for file in files():
-            for code, piece in parts(file.read_text(), file.suffix):
-                if code:
-                    for name in WORD.findall(piece):
-                        if name not in own:
-                            left.setdefault(name, []).append(file)
-        (pathlib.Path("/tmp") / "left.txt").write_text("\n".join(f"{n} {len(fs)} {fs[0].relative_to(ROOT)}" for n, fs in sorted(left.items())))
-        (pathlib.Path("/tmp") / "own.txt").write_text("\n".join(sorted(own)))
 
 
 main()

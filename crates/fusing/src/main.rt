@@ -10,11 +10,11 @@ use tickets::Ticket;
 
 // Fusing in examples/heading.plan.
 const FUSING: u8 = 1;
-// The object and the part that it writes, and the mode that lets it.
+// The object that it writes.
 const HEADING: u8 = 0;
-
+// The part of it that it writes.
 const COURSE: u8 = 1;
-
+// The mode that lets it.
 const WRITE: u8 = 1;
 
 // The worked plan, examples/heading.plan.
@@ -24,9 +24,9 @@ const PLAN: [u8; 63] = [
     1, 1,
 ];
 
-// Logging, and the mode in which it reads the heading.
+// Logging in the same plan.
 const LOGGING: u8 = 2;
-
+// The mode in which it reads the heading.
 const READ: u8 = 0;
 
 // How one turn of fusing came out.

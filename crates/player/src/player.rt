@@ -20,9 +20,9 @@ use tape::{Item, Tape};
 const MOST_INPUT: usize = 60_000;
 // A sheet for so many lines takes 32,000 bytes.
 const MOST_LINES: usize = 1_000;
-// The stacks that a player lends its manager.
+// The lock records that a player lends its manager.
 const LOCKS: usize = 64;
-
+// The images that it lends it.
 const IMAGES: usize = 64;
 // Four for each of 32 objects.
 const CELLS: usize = 128;

@@ -78,7 +78,7 @@ record Foremost (tasks : List Task) (k : ℕ) (ts : List Task) (j : ℕ) : Type 
   ready : standing_at ts at ≡ Ready
   least : (m n : ℕ) → n ≡ k + m → standing_at ts m ≡ Ready → place tasks j ≤ place tasks n
 
--- what running-from answers
+-- what running_from answers
 abbrev Found : List Task → ℕ → List Task → Option ℕ → Type 0
 Found tasks k ts None = (m : ℕ) → standing_at ts m ≡ Ready → ⊥
 Found tasks k ts (Some j) = Foremost tasks k ts j
@@ -120,7 +120,7 @@ found_first tasks k t ts here (Some j) f = cond_both (ltb (place tasks j) (place
     })
     (λ l. let b = ltb-false (place tasks j) (place tasks k) l in found_here tasks k t ts here (λ m n e r. let c = f.least m n e r in omega arith))
 
--- running-from finds it
+-- running_from finds it
 found : (tasks : List Task) (k : ℕ) (ts : List Task) → Found tasks k ts (running_from tasks k ts)
 found tasks k [] = λ m e. rest_not_ready e
 found tasks k (t ∷ ts) =
