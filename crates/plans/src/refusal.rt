@@ -1,29 +1,32 @@
 // Refusals: each has a number, by which tapes, programs and C know it. docs/REFUSALS.md has the table.
 ghost use Rattle.std.specs.Prelude.{◌≡◌};
 ghost use Rattle.plans.specs.Refusals.{number_of};
+ghost use Rattle.plans.specs.declared.refusal.Refusal.TheVariants.{NumberNotThere};
+
+use rules::UnknownRule;
 
 // Why an input or a call was turned away. What was refused has changed nothing.
 #[derive(Clone, Copy, PartialEq, Eq, Debug)]
 pub enum Refusal {
-    PlanEnds,
-    CountOutOfLimits,
-    BadRow,
-    PeriodFalls,
-    UseNotThere,
-    UseAgain,
-    BytesAfterPlan,
-    FewCells,
-    NumberNotThere,
-    AlreadyOpen,
-    NotRunning,
-    NoSuchUse,
-    AlreadyHeld,
-    LocksFull,
-    NotCovered,
-    JournalFull,
-    BudgetSpent,
-    UnreadableLine,
-    ShortSheet,
+    PlanEnds = 1,
+    CountOutOfLimits = 2,
+    BadRow = 3,
+    PeriodFalls = 4,
+    UseNotThere = 5,
+    UseAgain = 6,
+    BytesAfterPlan = 7,
+    FewCells = 8,
+    NumberNotThere = 9,
+    AlreadyOpen = 10,
+    NotRunning = 11,
+    NoSuchUse = 12,
+    AlreadyHeld = 13,
+    LocksFull = 14,
+    NotCovered = 15,
+    JournalFull = 16,
+    BudgetSpent = 17,
+    UnreadableLine = 18,
+    ShortSheet = 19,
 }
 
 impl Refusal {
@@ -31,26 +34,15 @@ impl Refusal {
     pub fn number(self) -> u8
         ensures { result ≡ number_of self }
     {
-        match self {
-            Refusal::PlanEnds => 1,
-            Refusal::CountOutOfLimits => 2,
-            Refusal::BadRow => 3,
-            Refusal::PeriodFalls => 4,
-            Refusal::UseNotThere => 5,
-            Refusal::UseAgain => 6,
-            Refusal::BytesAfterPlan => 7,
-            Refusal::FewCells => 8,
-            Refusal::NumberNotThere => 9,
-            Refusal::AlreadyOpen => 10,
-            Refusal::NotRunning => 11,
-            Refusal::NoSuchUse => 12,
-            Refusal::AlreadyHeld => 13,
-            Refusal::LocksFull => 14,
-            Refusal::NotCovered => 15,
-            Refusal::JournalFull => 16,
-            Refusal::BudgetSpent => 17,
-            Refusal::UnreadableLine => 18,
-            Refusal::ShortSheet => 19,
-        }
+        self as u8
+    }
+}
+
+// A rule that nobody knows is a number that is not there.
+impl From<UnknownRule> for Refusal {
+    ghost from_gives = { λ _ refusal. refusal ≡ NumberNotThere };
+
+    fn from(_unknown: UnknownRule) -> Refusal {
+        Refusal::NumberNotThere
     }
 }

@@ -5,4 +5,4 @@ mod laws;
 mod words;
 
 pub use laws::{laws_hold, served_agrees};
-pub use words::{Account, Answer, Call, Image, LockRecord, Standing, Task};
+pub use words::{Account, Answer, CELLS, Call, Image, LockRecord, Standing, Task};

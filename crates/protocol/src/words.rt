@@ -1,9 +1,13 @@
 // The words that calls, answers and the manager's memory are put in.
 use plans::Refusal;
 
+// Four for each of 32 objects.
+pub const CELLS: usize = 128;
+
 // How a task stands. It is open when it does not rest.
-#[derive(Clone, Copy)]
+#[derive(Clone, Copy, Debug, Default, PartialEq, Eq)]
 pub enum Standing {
+    #[default]
     Resting,
     Ready,
     // For the task with this number.
@@ -11,7 +15,7 @@ pub enum Standing {
 }
 
 // What is kept of a task.
-#[derive(Clone, Copy)]
+#[derive(Clone, Copy, Debug, Default, PartialEq, Eq)]
 pub struct Task {
     pub standing: Standing,
     // Ticks that its instance has run.
@@ -23,7 +27,7 @@ pub struct Task {
 }
 
 // A lock that is held: the task holds the object in the mode.
-#[derive(Clone, Copy)]
+#[derive(Clone, Copy, Debug, Default, PartialEq, Eq)]
 pub struct LockRecord {
     pub task: u8,
     pub object: u8,
@@ -31,7 +35,7 @@ pub struct LockRecord {
 }
 
 // What a cell held before a task wrote it.
-#[derive(Clone, Copy)]
+#[derive(Clone, Copy, Debug, Default, PartialEq, Eq)]
 pub struct Image {
     pub task: u8,
     pub cell: u8,
@@ -39,7 +43,7 @@ pub struct Image {
 }
 
 // What may be asked of the manager.
-#[derive(Clone, Copy)]
+#[derive(Clone, Copy, Debug, PartialEq, Eq)]
 pub enum Call {
     Arrive {
         task: u8,
@@ -70,7 +74,7 @@ pub enum Call {
 }
 
 // The ticks that an instance used and lost, and the task that they were lost to.
-#[derive(Clone, Copy)]
+#[derive(Clone, Copy, Debug, PartialEq, Eq)]
 pub struct Account {
     pub used: u16,
     pub lost: u16,
@@ -78,7 +82,7 @@ pub struct Account {
 }
 
 // What the manager answers.
-#[derive(Clone, Copy)]
+#[derive(Clone, Copy, Debug, PartialEq, Eq)]
 pub enum Answer {
     Open,
     Granted,

@@ -1,6 +1,10 @@
 // Lock rules: what a mode of a lock reads and writes, and which modes clash. Plans are in `plans`.
 #![tactic(auto)]
 
+mod numbered;
+
+pub use numbered::{NumberedRule, UnknownRule};
+
 ghost use Rattle.std.specs.Prelude.{◌≡◌};
 ghost use Rattle.rules.specs.Meaning.{Meaning, Lawful, exclusive, read_write};
 ghost use Rattle.std.proofs.Common.{rules};
@@ -30,7 +34,7 @@ pub trait LockRule {
 }
 
 // Every lock excludes every other on the same object.
-#[derive(Clone, Copy)]
+#[derive(Clone, Copy, Debug, PartialEq, Eq)]
 pub struct Exclusive;
 
 impl LockRule for Exclusive {
@@ -57,7 +61,7 @@ impl LockRule for Exclusive {
 }
 
 // Readers share an object, a writer excludes all others.
-#[derive(Clone, Copy)]
+#[derive(Clone, Copy, Debug, PartialEq, Eq)]
 pub struct ReadWrite;
 
 impl LockRule for ReadWrite {
