@@ -7,20 +7,20 @@ ghost use Rattle.ceiling_locks.specs.Numbers.{in_numbers, asked, under, check_un
 
 use plans::{Plan, Refusal};
 use player::play_numbered;
-use rules::{Exclusive, LockRule, ReadWrite};
+use rules::NumberedRule;
 
 // Minus the refusal's number.
 fn minus(refusal: Refusal) -> i64
     ensures { result ≡ in_numbers (Err refusal) }
 {
-    -(refusal.number() as i64)
+    -i64::from(refusal.number())
 }
 
 fn in_numbers(r: Result<u32, Refusal>) -> i64
     ensures { result ≡ in_numbers r }
 {
     match r {
-        Ok(n) => n as i64,
+        Ok(n) => i64::from(n),
         Err(refusal) => minus(refusal),
     }
 }
@@ -29,70 +29,54 @@ fn in_numbers(r: Result<u32, Refusal>) -> i64
 fn asked(n: i64) -> Result<usize, Refusal>
     ensures { result ≡ asked n }
 {
-    if n < 0 {
-        Err(Refusal::NumberNotThere)
-    } else {
-        Ok(n as usize)
-    }
+    usize::try_from(n).map_err(|_| Refusal::NumberNotThere)
 }
 
-fn check_under<R: LockRule>(rule: &R, plan: &[u8]) -> Result<u32, Refusal>
-    ensures { result ≡ check_under plan.now (R.meaning rule.now) }
+fn check_under(rule: i64, plan: &[u8]) -> Result<u32, Refusal>
+    ensures { result ≡ under rule (check_under plan.now) }
 {
-    let _ = Plan::read_whole(rule, plan)?;
+    let rule = NumberedRule::try_from(rule)?;
+    Plan::read_whole(&rule, plan)?;
     Ok(0)
 }
 
-fn ceiling_under<R: LockRule>(rule: &R, plan: &[u8], object: i64, mode: i64) -> Result<u32, Refusal>
-    ensures { result ≡ ceiling_under plan.now object mode (R.meaning rule.now) }
+fn ceiling_under(rule: i64, plan: &[u8], object: i64, mode: i64) -> Result<u32, Refusal>
+    ensures { result ≡ under rule (ceiling_under plan.now object mode) }
 {
-    let plan = Plan::read_whole(rule, plan)?;
-    let object = asked(object)?;
-    let mode = asked(mode)?;
-    let ceiling = plan.ceiling(rule, object, mode)?;
-    Ok(ceiling.value as u32)
+    let rule = NumberedRule::try_from(rule)?;
+    let plan = Plan::read_whole(&rule, plan)?;
+    let ceiling = plan.ceiling(&rule, asked(object)?, asked(mode)?)?;
+    Ok(u32::from(ceiling.value))
 }
 
-fn bound_under<R: LockRule>(rule: &R, plan: &[u8], task: i64) -> Result<u32, Refusal>
-    ensures { result ≡ bound_under plan.now task (R.meaning rule.now) }
+fn bound_under(rule: i64, plan: &[u8], task: i64) -> Result<u32, Refusal>
+    ensures { result ≡ under rule (bound_under plan.now task) }
 {
-    let plan = Plan::read_whole(rule, plan)?;
-    let task = asked(task)?;
-    let bound = plan.bound(rule, task)?;
-    Ok(bound.value as u32)
+    let rule = NumberedRule::try_from(rule)?;
+    let plan = Plan::read_whole(&rule, plan)?;
+    let bound = plan.bound(&rule, asked(task)?)?;
+    Ok(u32::from(bound.value))
 }
 
 // 0 where the plan is accepted under the rule with this number.
 pub fn check(rule: i64, plan: &[u8]) -> i64
     ensures { result ≡ in_numbers (under rule (check_under plan.now)) }
 {
-    in_numbers(match rule {
-        1 => check_under(&Exclusive, plan),
-        2 => check_under(&ReadWrite, plan),
-        _ => Err(Refusal::NumberNotThere),
-    })
+    in_numbers(check_under(rule, plan))
 }
 
 // The ceiling of an object that is locked in a mode.
 pub fn ceiling(rule: i64, plan: &[u8], object: i64, mode: i64) -> i64
     ensures { result ≡ in_numbers (under rule (ceiling_under plan.now object mode)) }
 {
-    in_numbers(match rule {
-        1 => ceiling_under(&Exclusive, plan, object, mode),
-        2 => ceiling_under(&ReadWrite, plan, object, mode),
-        _ => Err(Refusal::NumberNotThere),
-    })
+    in_numbers(ceiling_under(rule, plan, object, mode))
 }
 
 // The bound of a task.
 pub fn bound(rule: i64, plan: &[u8], task: i64) -> i64
     ensures { result ≡ in_numbers (under rule (bound_under plan.now task)) }
 {
-    in_numbers(match rule {
-        1 => bound_under(&Exclusive, plan, task),
-        2 => bound_under(&ReadWrite, plan, task),
-        _ => Err(Refusal::NumberNotThere),
-    })
+    in_numbers(bound_under(rule, plan, task))
 }
 
 // Plays the tape behind the plan onto the sheet, and answers how many bytes it wrote.
