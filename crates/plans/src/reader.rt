@@ -1,19 +1,19 @@
 // Reading a plan from bytes. docs/PLAN.md has the format.
-ghost use Rattle.std.specs.Prelude.{◌≡◌, ℕ, ◌≤◌, List, [], length, Ok, Err, MatchResult};
-ghost use Rattle.plans.specs.Reading.{Read, value_in, row_in, read_object, read_row, read_use, read_some, read_short, read_rows, read_uses, read_others, read_plan, read_whole, last_row, is_bad, is_there, same_use, stands_in};
+ghost use Rattle.std.specs.Prelude.{◌≡◌, ℕ, ◌≤◌, List, []};
+ghost use Rattle.plans.specs.Reading.{Read, read_value, read_object, read_row, read_use, read_some, read_short, read_rows, read_uses, read_plan, read_whole, last_row, is_bad, is_there};
+ghost use Rattle.plans.specs.Results.{Reads, and_rest};
 ghost use Rattle.plans.specs.Plans.{contents};
-ghost use Rattle.plans.specs.Tables.{items};
 ghost use Rattle.plans.specs.Written.{AcceptedExactly, AcceptedWhole};
 
 use crate::parts::{Object, Row, Use};
-use crate::plan::{MOST_OBJECTS, MOST_TASKS, MOST_USES, Plan};
+use crate::plan::{MOST_USES, Plan};
 use crate::refusal::Refusal;
-use crate::table::Table;
+use arrayvec::ArrayVec;
 use rules::LockRule;
 
 // How one element of a section is read, after those before it.
 trait Section {
-    type Item: Copy;
+    type Item: Copy + Default;
 
     ghost reads: { Self → List Self.Item → List ℕ → Read Self.Item };
 
@@ -23,15 +23,17 @@ trait Section {
         before: &[Self::Item],
         bytes: &'a [u8],
     ) -> Result<(Self::Item, &'a [u8]), Refusal>
-        ensures { MatchResult result (λ p. reads self.now before.now bytes.now ≡ Ok (p.0, p.1.now)) (λ why. reads self.now before.now bytes.now ≡ Err why) };
+        ensures { Reads (and_rest (λ x. x)) result (reads self.now before.now bytes.now) };
 }
 
-// The signed number in the first four bytes, the highest first.
-fn value_in(bytes: &[u8]) -> i32
-    requires { 4 ≤ length bytes.now }
-    ensures { result ≡ value_in bytes.now }
+// A signed number in four bytes, the highest first.
+fn read_value(bytes: &[u8]) -> Result<(i32, &[u8]), Refusal>
+    ensures { Reads (and_rest (λ z. z)) result (read_value bytes.now) }
 {
-    i32::from_be_bytes([bytes[0], bytes[1], bytes[2], bytes[3]])
+    let [a, b, c, d, rest @ ..] = bytes else {
+        return Err(Refusal::PlanEnds);
+    };
+    Ok((i32::from_be_bytes([*a, *b, *c, *d]), rest))
 }
 
 #[derive(Drop)]
@@ -43,32 +45,17 @@ impl Section for Objects {
     ghost reads = { λ _ _. read_object };
 
     fn read<'a>(&self, _before: &[Object], bytes: &'a [u8]) -> Result<(Object, &'a [u8]), Refusal> {
-        if bytes.len() < 16 {
-            return Err(Refusal::PlanEnds);
-        }
-        let start = [
-            value_in(bytes),
-            value_in(&bytes[4..]),
-            value_in(&bytes[8..]),
-            value_in(&bytes[12..]),
-        ];
-        Ok((Object { start }, &bytes[16..]))
+        let (a, rest) = read_value(bytes)?;
+        let (b, rest) = read_value(rest)?;
+        let (c, rest) = read_value(rest)?;
+        let (d, rest) = read_value(rest)?;
+        let start = [a, b, c, d];
+        Ok((Object { start }, rest))
     }
 }
 
 #[derive(Drop)]
 struct Rows;
-
-// The row in the first four bytes: its period, then its budget.
-fn row_in(bytes: &[u8]) -> Row
-    requires { 4 ≤ length bytes.now }
-    ensures { result ≡ row_in bytes.now }
-{
-    Row {
-        period: u16::from_be_bytes([bytes[0], bytes[1]]),
-        budget: u16::from_be_bytes([bytes[2], bytes[3]]),
-    }
-}
 
 fn is_bad(row: Row) -> bool
     ensures { result ≡ is_bad row }
@@ -80,10 +67,7 @@ fn is_bad(row: Row) -> bool
 fn last_period(rows: &[Row]) -> u16
     ensures { result ≡ (last_row rows.now).period }
 {
-    match rows.last() {
-        Some(row) => row.period,
-        None => 0,
-    }
+    rows.last().map_or(0, |row| row.period)
 }
 
 impl Section for Rows {
@@ -92,17 +76,20 @@ impl Section for Rows {
     ghost reads = { λ _. read_row };
 
     fn read<'a>(&self, before: &[Row], bytes: &'a [u8]) -> Result<(Row, &'a [u8]), Refusal> {
-        if bytes.len() < 4 {
+        let [a, b, c, d, rest @ ..] = bytes else {
             return Err(Refusal::PlanEnds);
-        }
-        let row = row_in(bytes);
+        };
+        let row = Row {
+            period: u16::from_be_bytes([*a, *b]),
+            budget: u16::from_be_bytes([*c, *d]),
+        };
         if is_bad(row) {
             return Err(Refusal::BadRow);
         }
         if row.period < last_period(before) {
             return Err(Refusal::PeriodFalls);
         }
-        Ok((row, &bytes[4..]))
+        Ok((row, rest))
     }
 }
 
@@ -122,23 +109,6 @@ impl Uses {
     }
 }
 
-fn is_same(u: Use, v: Use) -> bool
-    ensures { result ≡ same_use u v }
-{
-    u.task == v.task && u.object == v.object && u.mode == v.mode
-}
-
-fn contains(uses: &[Use], wanted: Use) -> bool
-    ensures { result ≡ stands_in wanted uses.now }
-{
-    for u in uses {
-        if is_same(*u, wanted) {
-            return true;
-        }
-    }
-    false
-}
-
 impl Section for Uses {
     type Item = Use;
 
@@ -156,7 +126,7 @@ impl Section for Uses {
         if !self.has(found) {
             return Err(Refusal::UseNotThere);
         }
-        if contains(before, found) {
+        if before.contains(&found) {
             return Err(Refusal::UseAgain);
         }
         Ok((found, rest))
@@ -167,54 +137,36 @@ impl Section for Uses {
 fn read_some<'a, S: Section, const N: usize>(
     section: &S,
     count: usize,
-    blank: S::Item,
     bytes: &'a [u8],
-) -> Result<(Table<S::Item, N>, &'a [u8]), Refusal>
+) -> Result<(ArrayVec<S::Item, N>, &'a [u8]), Refusal>
     requires { count ≤ N }
-    ensures { MatchResult result (λ p. read_some (S.Section.reads section.now) count [] bytes.now ≡ Ok (items p.0, p.1.now)) (λ why. read_some (S.Section.reads section.now) count [] bytes.now ≡ Err why) }
+    ensures { Reads (and_rest (λ v. v.items)) result (read_some (S.Section.reads section.now) count [] bytes.now) }
 {
-    let mut table = Table::empty(blank);
+    let mut items = ArrayVec::new();
     let mut rest = bytes;
-    for done in 0..count {
-        let (item, after) = match section.read(table.as_slice(), rest) {
-            Ok(found) => found,
-            Err(why) => return Err(why),
-        };
-        table.push(item);
+    while items.len() < count {
+        let (item, after) = section.read(&items, rest)?;
+        items.push(item);
         rest = after;
     }
-    Ok((table, rest))
+    Ok((items, rest))
 }
 
 // A section of 1 to N elements, after a count of one byte.
 fn read_short<'a, S: Section, const N: usize>(
     section: &S,
-    blank: S::Item,
     bytes: &'a [u8],
-) -> Result<(Table<S::Item, N>, &'a [u8]), Refusal>
-    ensures { MatchResult result (λ p. read_short (S.Section.reads section.now) N bytes.now ≡ Ok (items p.0, p.1.now)) (λ why. read_short (S.Section.reads section.now) N bytes.now ≡ Err why) }
+) -> Result<(ArrayVec<S::Item, N>, &'a [u8]), Refusal>
+    ensures { Reads (and_rest (λ v. v.items)) result (read_short (S.Section.reads section.now) N bytes.now) }
 {
-    if bytes.len() < 1 {
+    let [count, rest @ ..] = bytes else {
         return Err(Refusal::PlanEnds);
-    }
-    let count = bytes[0] as usize;
+    };
+    let count = *count as usize;
     if count < 1 || N < count {
         return Err(Refusal::CountOutOfLimits);
     }
-    read_some(section, count, blank, &bytes[1..])
-}
-
-fn read_rows(bytes: &[u8]) -> Result<(Table<Row, MOST_TASKS>, &[u8]), Refusal>
-    ensures { MatchResult result (λ p. read_rows bytes.now ≡ Ok (items p.0, p.1.now)) (λ why. read_rows bytes.now ≡ Err why) }
-{
-    read_short(
-        &Rows,
-        Row {
-            period: 0,
-            budget: 0,
-        },
-        bytes,
-    )
+    read_some(section, count, rest)
 }
 
 fn read_uses(
@@ -222,13 +174,13 @@ fn read_uses(
     objects: usize,
     modes: u8,
     bytes: &[u8],
-) -> Result<(Table<Use, MOST_USES>, &[u8]), Refusal>
-    ensures { MatchResult result (λ p. read_uses tasks objects modes bytes.now ≡ Ok (items p.0, p.1.now)) (λ why. read_uses tasks objects modes bytes.now ≡ Err why) }
+) -> Result<(ArrayVec<Use, MOST_USES>, &[u8]), Refusal>
+    ensures { Reads (and_rest (λ v. v.items)) result (read_uses tasks objects modes bytes.now) }
 {
-    if bytes.len() < 2 {
+    let [high, low, rest @ ..] = bytes else {
         return Err(Refusal::PlanEnds);
-    }
-    let count = u16::from_be_bytes([bytes[0], bytes[1]]) as usize;
+    };
+    let count = u16::from_be_bytes([*high, *low]) as usize;
     if MOST_USES < count {
         return Err(Refusal::CountOutOfLimits);
     }
@@ -237,65 +189,37 @@ fn read_uses(
         objects,
         modes,
     };
-    read_some(
-        &section,
-        count,
-        Use {
-            task: 0,
-            object: 0,
-            mode: 0,
-        },
-        &bytes[2..],
-    )
-}
-
-// The rows and the uses, after the objects.
-fn read_others<'a, R: LockRule>(
-    rule: &R,
-    objects: Table<Object, MOST_OBJECTS>,
-    bytes: &'a [u8],
-) -> Result<(Plan, &'a [u8]), Refusal>
-    ensures { MatchResult result (λ p. read_others (R.meaning rule.now) (items objects) bytes.now ≡ Ok (contents p.0, p.1.now)) (λ why. read_others (R.meaning rule.now) (items objects) bytes.now ≡ Err why) }
-{
-    let (rows, rest) = match read_rows(bytes) {
-        Ok(found) => found,
-        Err(why) => return Err(why),
-    };
-    let tasks = rows.as_slice().len();
-    match read_uses(tasks, objects.as_slice().len(), rule.modes(), rest) {
-        Ok((uses, rest)) => Ok((
-            Plan {
-                objects,
-                rows,
-                uses,
-            },
-            rest,
-        )),
-        Err(why) => Err(why),
-    }
+    read_some(&section, count, rest)
 }
 
 impl Plan {
     // The plan at the front of the input, and the input after it.
+    #[tactic(auto, using(crate::proofs::Written::accepted_exactly))]
     pub fn read<'a, R: LockRule>(rule: &R, input: &'a [u8]) -> Result<(Plan, &'a [u8]), Refusal>
-        ensures answer { MatchResult result (λ p. read_plan (R.meaning rule.now) input.now ≡ Ok (contents p.0, p.1.now)) (λ why. read_plan (R.meaning rule.now) input.now ≡ Err why) }
+        ensures answer { Reads (and_rest contents) result (read_plan (R.meaning rule.now) input.now) }
         ensures law { AcceptedExactly (R.meaning rule.now) input.now }
     {
-        match read_short(&Objects, Object { start: [0; 4] }, input) {
-            Ok((objects, rest)) => read_others(rule, objects, rest),
-            Err(why) => Err(why),
-        }
+        let (objects, rest) = read_short(&Objects, input)?;
+        let (rows, rest) = read_short(&Rows, rest)?;
+        let (uses, rest) = read_uses(rows.len(), objects.len(), rule.modes(), rest)?;
+        let plan = Plan {
+            objects,
+            rows,
+            uses,
+        };
+        Ok((plan, rest))
     }
 
     // The plan, where it is all of the input.
+    #[tactic(auto, using(crate::proofs::Written::accepted_whole))]
     pub fn read_whole<R: LockRule>(rule: &R, input: &[u8]) -> Result<Plan, Refusal>
-        ensures answer { MatchResult result (λ p. read_whole (R.meaning rule.now) input.now ≡ Ok (contents p)) (λ why. read_whole (R.meaning rule.now) input.now ≡ Err why) }
+        ensures answer { Reads contents result (read_whole (R.meaning rule.now) input.now) }
         ensures law { AcceptedWhole (R.meaning rule.now) input.now }
     {
-        match Plan::read(rule, input) {
-            Ok((plan, rest)) if rest.is_empty() => Ok(plan),
-            Ok(_) => Err(Refusal::BytesAfterPlan),
-            Err(why) => Err(why),
+        let (plan, rest) = Plan::read(rule, input)?;
+        if !rest.is_empty() {
+            return Err(Refusal::BytesAfterPlan);
         }
+        Ok(plan)
     }
 }
