@@ -1,11 +1,13 @@
 -- Ceilings and bounds: one use more, and the laws that they keep. Assumes nothing.
-use Rattle.std.proofs.Common.{◌≡◌, ℕ, zero, suc, ◌+◌, ◌<◌, ◌≤◌, min, max, Bool, true, false, cond, ◌⊎◌, List, [], ◌∷◌, length, get_or, drop, Some, None, refl, ap, ◌∙◌, inl, inr, ⊎_elim, arith}
-use Rattle.std.specs.List.{ContainsAt}
-use Rattle.std.proofs.lemmas.List.{at_drop_more}
+use Rattle.std.proofs.Common.{◌≡◌, ℕ, zero, suc, ◌+◌, ◌<◌, ◌≤◌, min, max, Bool, true, false, cond, ◌⊎◌, List, [], ◌∷◌, length, map, get_or, drop, Some, None, refl, ap, ◌∙◌, inl, inr, ⊎_elim, arith}
+use Rattle.std.specs.List.{ContainsAt, find, filter, fold, reduce}
+use Rattle.std.specs.Option.{unwrap_or}
+use Rattle.std.specs.Ordering.{max_by_ordering, nat_cmp}
+use Rattle.std.proofs.lemmas.List.Folds.{max_of_map}
 use Rattle.std.proofs.lemmas.Bool.{cases_Bool, cases_lt, and_parts, and_from, eq-eqb, eqb-true, both_ways}
 use Rattle.rules.specs.Meaning.{Meaning}
 use Rattle.plans.specs.Contents.{Contents, budget_of, no_use}
-use Rattle.plans.specs.Ceilings.{excluded, ceiling, delays, bound_over, bound, first, attains, ceiling_reason, costs, bound_reason, CeilingLaw, BoundLaw}
+use Rattle.plans.specs.Ceilings.{excluded, ceiling, delays, bound_over, bound, attains, ceiling_reason, costs, bound_reason, CeilingLaw, BoundLaw}
 use Rattle.plans.specs.declared.parts.Use.{Use}
 
 -- ---- elements of a list
@@ -29,27 +31,23 @@ has_none x h = omega (arith, h.1)
 
 -- ---- the first use that passes
 
-pub first_passes : (p : Use → Bool) (us : List Use) (u : Use) → first p us ≡ Some u → ContainsAt us u × (p u ≡ true)
-first_passes p [] u e = let z : ◌≡◌ {A = ℕ} 0 1 = cc in absurd (omega arith)
-first_passes p (v ∷ us) u e =
+pub find_passes : (p : Use → Bool) (us : List Use) (u : Use) → find p us ≡ Some u → ContainsAt us u × (p u ≡ true)
+find_passes p [] u e = let z : ◌≡◌ {A = ℕ} 0 1 = cc in absurd (omega arith)
+find_passes p (v ∷ us) u e =
     ⊎_elim
     (λ (yes' : p v ≡ true). let same : v ≡ u = cc in (rw (← same) (has_head v us), rw (← same) yes'))
-    (λ (no' : p v ≡ false). let later : first p us ≡ Some u = cc in (has_tail v us u (first_passes p us u later).0, (first_passes p us u later).1))
+    (λ (no' : p v ≡ false). let later : find p us ≡ Some u = cc in (has_tail v us u (find_passes p us u later).0, (find_passes p us u later).1))
     (cases_Bool (p v))
 
-pub first_none : (p : Use → Bool) (us : List Use) → first p us ≡ None → (u : Use) → ContainsAt us u → p u ≡ false
-first_none p [] e u h = absurd (has_none u h)
-first_none p (v ∷ us) e u h =
+pub find_none : (p : Use → Bool) (us : List Use) → find p us ≡ None → (u : Use) → ContainsAt us u → p u ≡ false
+find_none p [] e u h = absurd (has_none u h)
+find_none p (v ∷ us) e u h =
     ⊎_elim
     (λ (yes' : p v ≡ true). let z : ◌≡◌ {A = ℕ} 0 1 = cc in absurd (omega arith))
     (λ (no' : p v ≡ false).
-    let later : first p us ≡ None = cc in
-    ⊎_elim (λ (same : v ≡ u). rw (← same) no') (λ there. first_none p us later u there) (has_cases v us u h))
+    let later : find p us ≡ None = cc in
+    ⊎_elim (λ (same : v ≡ u). rw (← same) no') (λ there. find_none p us later u there) (has_cases v us u h))
     (cases_Bool (p v))
-
--- one use more
-pub first_more : (p : Use → Bool) (uses : List Use) (i : ℕ) → i < length uses → (passes : Bool) → p (get_or uses i no_use) ≡ passes → first p (drop i uses) ≡ cond passes (Some (get_or uses i no_use)) (first p (drop (i + 1) uses))
-first_more p uses i l passes e = at_drop_more (first p) uses i no_use l ∙ rw e
 
 -- ---- ceilings
 
@@ -86,22 +84,27 @@ module _ (m : Meaning) (object held : ℕ) where
   ceiling_law uses = record {
     least = ceiling_least uses;
     attained = λ u e.
-        let found = first_passes (attains m object held (ceiling m uses object held)) uses u e in
+        let found = find_passes (attains m object held (ceiling m uses object held)) uses u e in
         let parts = and_parts _ _ found.1 in
         (found.0, parts.0, eqb-true _ _ parts.1);
     free = λ e.
         ⊎_elim
-        (λ a. absurd (both_ways _ (first_none (attains m object held (ceiling m uses object held)) uses e a.0 a.1) (and_from _ _ a.2 (eq-eqb _ _ a.3))))
+        (λ a. absurd (both_ways _ (find_none (attains m object held (ceiling m uses object held)) uses e a.0 a.1) (and_from _ _ a.2 (eq-eqb _ _ a.3))))
         (λ (none : ceiling m uses object held ≡ 16). none)
         (ceiling_attained uses);
   }
 
-  -- one use more
-  pub ceiling_more : (uses : List Use) (i least : ℕ) → i < length uses → excluded m object held (get_or uses i no_use) ≡ true → min least (ceiling m (drop i uses) object held) ≡ min (min least (get_or uses i no_use).task) (ceiling m (drop (i + 1) uses) object held)
-  ceiling_more uses i least l e = let step = at_drop_more (λ us. ceiling m us object held) uses i no_use l in rw (step, e) (omega arith)
+  -- the ceiling is the least task of the excluded uses
+  ceiling_folds : (us : List Use) (least : ℕ) → least ≤ 16 → fold (λ a u. min a u.task) least (filter (excluded m object held) us) ≡ min least (ceiling m us object held)
+  ceiling_folds [] least low = omega arith
+  ceiling_folds (u ∷ us) least low =
+      elim (excluded m object held u) as (λ b. fold (λ a u. min a u.task) least (cond b (u ∷ filter (excluded m object held) us) (filter (excluded m object held) us)) ≡ min least (cond b (min u.task (ceiling m us object held)) (ceiling m us object held))) [
+        | true ↦ let rest = ceiling_folds us (min least u.task) (omega arith) in omega (arith, rest)
+        | false ↦ ceiling_folds us least low
+      ]
 
-  pub ceiling_skip : (uses : List Use) (i : ℕ) → i < length uses → excluded m object held (get_or uses i no_use) ≡ false → ceiling m (drop i uses) object held ≡ ceiling m (drop (i + 1) uses) object held
-  ceiling_skip uses i l e = let step = at_drop_more (λ us. ceiling m us object held) uses i no_use l in rw (step, e)
+  pub ceiling_by_min : (us : List Use) → fold (λ a u. min a u.task) 16 (filter (excluded m object held) us) ≡ ceiling m us object held
+  ceiling_by_min us = omega (arith, ceiling_folds us 16 (omega arith), ceiling_le us)
 
 -- ---- bounds
 
@@ -134,19 +137,24 @@ module _ (m : Meaning) (plan : Contents) (task : ℕ) where
   bound_law = record {
     greatest = bound_greatest plan.uses;
     attained = λ u e.
-        let found = first_passes (costs m plan task (bound m plan task)) plan.uses u e in
+        let found = find_passes (costs m plan task (bound m plan task)) plan.uses u e in
         let parts = and_parts _ _ found.1 in
         (found.0, parts.0, eqb-true _ _ parts.1);
     free = λ e.
         ⊎_elim
-        (λ a. absurd (both_ways _ (first_none (costs m plan task (bound m plan task)) plan.uses e a.0 a.1) (and_from _ _ a.2 (eq-eqb _ _ a.3))))
+        (λ a. absurd (both_ways _ (find_none (costs m plan task (bound m plan task)) plan.uses e a.0 a.1) (and_from _ _ a.2 (eq-eqb _ _ a.3))))
         (λ (none : bound m plan task ≡ 0). none)
         (bound_attained plan.uses);
   }
 
-  -- one use more
-  pub bound_more : (uses : List Use) (i greatest : ℕ) → i < length uses → delays m plan.uses task (get_or uses i no_use) ≡ true → max greatest (bound_over m plan task (drop i uses)) ≡ max (max greatest (budget_of plan (get_or uses i no_use).task)) (bound_over m plan task (drop (i + 1) uses))
-  bound_more uses i greatest l e = let step = at_drop_more (bound_over m plan task) uses i no_use l in rw (step, e) (omega arith)
+  -- the bound is the greatest budget of the uses that delay
+  bound_folds : (us : List Use) (greatest : ℕ) → fold (λ a u. max a (budget_of plan u.task)) greatest (filter (delays m plan.uses task) us) ≡ max greatest (bound_over m plan task us)
+  bound_folds [] greatest = omega arith
+  bound_folds (u ∷ us) greatest =
+      elim (delays m plan.uses task u) as (λ b. fold (λ a u. max a (budget_of plan u.task)) greatest (cond b (u ∷ filter (delays m plan.uses task) us) (filter (delays m plan.uses task) us)) ≡ max greatest (cond b (max (budget_of plan u.task) (bound_over m plan task us)) (bound_over m plan task us))) [
+        | true ↦ let rest = bound_folds us (max greatest (budget_of plan u.task)) in omega (arith, rest)
+        | false ↦ bound_folds us greatest
+      ]
 
-  pub bound_skip : (uses : List Use) (i : ℕ) → i < length uses → delays m plan.uses task (get_or uses i no_use) ≡ false → bound_over m plan task (drop i uses) ≡ bound_over m plan task (drop (i + 1) uses)
-  bound_skip uses i l e = let step = at_drop_more (bound_over m plan task) uses i no_use l in rw (step, e)
+  pub bound_by_max : unwrap_or (reduce (λ p z. max_by_ordering (nat_cmp p z) p z) (map (λ u. budget_of plan u.task) (filter (delays m plan.uses task) plan.uses))) 0 ≡ bound m plan task
+  bound_by_max = max_of_map (λ u. budget_of plan u.task) (filter (delays m plan.uses task) plan.uses) ∙ omega (arith, bound_folds plan.uses 0)
