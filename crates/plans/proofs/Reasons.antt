@@ -1,12 +1,12 @@
 -- Ceilings and bounds: one use more, and the laws that they keep. Assumes nothing.
-use Rattle.std.proofs.Common.{◌≡◌, ℕ, zero, suc, ◌+◌, ◌<◌, ◌≤◌, min, max, Bool, true, false, cond, ◌⊎◌, List, [], ◌∷◌, length, map, get_or, drop, Some, None, refl, ap, ◌∙◌, inl, inr, ⊎_elim, arith}
+use Rattle.std.proofs.Common.{◌≡◌, ℕ, zero, suc, ◌<◌, ◌≤◌, min, max, Bool, true, false, cond, ◌⊎◌, List, [], ◌∷◌, length, map, get_or, Some, None, refl, ap, ◌∙◌, inl, inr, ⊎_elim, arith}
 use Rattle.std.specs.List.{ContainsAt, find, filter, fold, reduce}
 use Rattle.std.specs.Option.{unwrap_or}
 use Rattle.std.specs.Ordering.{max_by_ordering, nat_cmp}
 use Rattle.std.proofs.lemmas.List.Folds.{max_of_map}
 use Rattle.std.proofs.lemmas.Bool.{cases_Bool, cases_lt, and_parts, and_from, eq-eqb, eqb-true, both_ways}
 use Rattle.rules.specs.Meaning.{Meaning}
-use Rattle.plans.specs.Contents.{Contents, budget_of, no_use}
+use Rattle.plans.specs.Contents.{Contents, budget_of}
 use Rattle.plans.specs.Ceilings.{excluded, ceiling, delays, bound_over, bound, attains, ceiling_reason, costs, bound_reason, CeilingLaw, BoundLaw}
 use Rattle.plans.specs.declared.parts.Use.{Use}
 

@@ -36,8 +36,8 @@ struct Held<'a, R> {
 }
 
 impl<'a, R: LockRule> Held<'a, R> {
-    fn excludes(&self, u: Use) -> bool
-        ensures { result ≡ excluded (R.meaning self.now.rule.now) self.now.object self.now.mode u }
+    fn excludes(&self, u: &Use) -> bool
+        ensures { result ≡ excluded (R.meaning self.now.rule.now) self.now.object self.now.mode u.now }
     {
         u.object as usize == self.object && self.rule.clashes(self.mode, u.mode)
     }
@@ -46,13 +46,13 @@ impl<'a, R: LockRule> Held<'a, R> {
         ensures { result ≡ ceiling (R.meaning self.now.rule.now) uses.now self.now.object self.now.mode }
     {
         uses.iter()
-            .filter(|u| self.excludes(**u))
+            .filter(|u| self.excludes(u))
             .fold(NO_TASK, |least, u| least.min(u.task))
     }
 
     // Whether the use is a reason for the ceiling.
-    fn attains(&self, ceiling: u8, u: Use) -> bool
-        ensures { result ≡ attains (R.meaning self.now.rule.now) self.now.object self.now.mode ceiling u }
+    fn attains(&self, ceiling: u8, u: &Use) -> bool
+        ensures { result ≡ attains (R.meaning self.now.rule.now) self.now.object self.now.mode ceiling u.now }
     {
         self.excludes(u) && u.task == ceiling
     }
@@ -68,8 +68,8 @@ struct HeldUp<'a, R> {
 
 impl<'a, R: LockRule> HeldUp<'a, R> {
     // Whether a lower task's lock can keep the task waiting.
-    fn is_delayed(&self, u: Use) -> bool
-        ensures { result ≡ delays (R.meaning self.now.rule.now) (contents self.now.plan.now).uses self.now.task u }
+    fn is_delayed_by(&self, u: &Use) -> bool
+        ensures { result ≡ delays (R.meaning self.now.rule.now) (contents self.now.plan.now).uses self.now.task u.now }
     {
         let held = Held {
             rule: self.rule,
@@ -82,18 +82,20 @@ impl<'a, R: LockRule> HeldUp<'a, R> {
     fn bound(&self) -> u16
         ensures { result ≡ bound (R.meaning self.now.rule.now) (contents self.now.plan.now) self.now.task }
     {
-        let uses = self.plan.uses().iter();
-        uses.filter(|u| self.is_delayed(**u))
+        self.plan
+            .uses()
+            .iter()
+            .filter(|u| self.is_delayed_by(u))
             .map(|u| self.plan.budget(u.task as usize))
             .max()
             .unwrap_or(0)
     }
 
     // Whether the use is a reason for the bound.
-    fn costs(&self, bound: u16, u: Use) -> bool
-        ensures { result ≡ costs (R.meaning self.now.rule.now) (contents self.now.plan.now) self.now.task bound u }
+    fn costs(&self, bound: u16, u: &Use) -> bool
+        ensures { result ≡ costs (R.meaning self.now.rule.now) (contents self.now.plan.now) self.now.task bound u.now }
     {
-        self.is_delayed(u) && self.plan.budget(u.task as usize) == bound
+        self.is_delayed_by(u) && self.plan.budget(u.task as usize) == bound
     }
 }
 
@@ -117,8 +119,7 @@ impl Plan {
             mode: mode as u8,
         };
         let value = held.ceiling(self.uses());
-        let mut uses = self.uses().iter().copied();
-        let reason = uses.find(|u| held.attains(value, *u));
+        let reason = self.uses().iter().copied().find(|u| held.attains(value, u));
         Ok(Ceiling { value, reason })
     }
 
@@ -136,8 +137,11 @@ impl Plan {
             task,
         };
         let value = held_up.bound();
-        let mut uses = self.uses().iter().copied();
-        let reason = uses.find(|u| held_up.costs(value, *u));
+        let reason = self
+            .uses()
+            .iter()
+            .copied()
+            .find(|u| held_up.costs(value, u));
         Ok(Bound { value, reason })
     }
 }
