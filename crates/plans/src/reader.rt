@@ -1,33 +1,58 @@
 // Reading a plan from bytes. docs/PLAN.md has the format.
 ghost use Rattle.std.specs.Prelude.{◌≡◌, ℕ, ◌≤◌, List, []};
-ghost use Rattle.plans.specs.Reading.{Read, read_value, read_object, read_row, read_use, read_some, read_short, read_rows, read_uses, read_plan, read_whole, last_row, is_bad, is_there};
-ghost use Rattle.plans.specs.Results.{Reads, and_rest};
+ghost use Rattle.plans.specs.Reading.{Read, read_value, read_object, read_row, read_use, read_some, read_short, read_objects, read_rows, read_uses, read_plan, read_whole, last_row, is_bad, is_there};
+ghost use Rattle.plans.specs.Results.{Reads, ReadsBy, and_rest};
 ghost use Rattle.plans.specs.Plans.{contents};
 ghost use Rattle.plans.specs.Written.{AcceptedExactly, AcceptedWhole};
 
 use crate::parts::{Object, Row, Use};
-use crate::plan::{MOST_USES, Plan};
+use crate::plan::{MOST_OBJECTS, MOST_TASKS, MOST_USES, Plan};
 use crate::refusal::Refusal;
 use arrayvec::ArrayVec;
 use rules::LockRule;
 
-// How one element of a section is read, after those before it.
-trait Section {
-    type Item: Copy + Default;
+// What was read and the bytes after it, or the first fault.
+type Read<'a, T> = Result<(T, &'a [u8]), Refusal>;
 
-    ghost reads: { Self → List Self.Item → List ℕ → Read Self.Item };
+// So many elements of a section, each read after those before it.
+fn read_some<T, const N: usize, F>(count: usize, bytes: &[u8], read: F) -> Read<'_, ArrayVec<T, N>>
+where
+    T: Copy + Default,
+    F: for<'b> Fn(&[T], &'b [u8]) -> Read<'b, T>,
+    requires room { count ≤ N }
+    requires callable { F.IsAlwaysCallable read }
+    ensures { (one : List T → List ℕ → Read T) → ReadsBy F.Fn read one → Reads (and_rest (λ v. v.items)) result (read_some one count [] bytes.now) }
+{
+    let mut items = ArrayVec::new();
+    let mut rest = bytes;
+    while items.len() < count {
+        let (item, after) = read(&items, rest)?;
+        items.push(item);
+        rest = after;
+    }
+    Ok((items, rest))
+}
 
-    // The element and the bytes after it, or the first fault.
-    fn read<'a>(
-        &self,
-        before: &[Self::Item],
-        bytes: &'a [u8],
-    ) -> Result<(Self::Item, &'a [u8]), Refusal>
-        ensures { Reads (and_rest (λ x. x)) result (reads self.now before.now bytes.now) };
+// A section of 1 to N elements, after a count of one byte.
+fn read_short<T, const N: usize, F>(bytes: &[u8], read: F) -> Read<'_, ArrayVec<T, N>>
+where
+    T: Copy + Default,
+    F: for<'b> Fn(&[T], &'b [u8]) -> Read<'b, T>,
+    requires { F.IsAlwaysCallable read }
+    ensures { (one : List T → List ℕ → Read T) → ReadsBy F.Fn read one → Reads (and_rest (λ v. v.items)) result (read_short one N bytes.now) }
+{
+    let [count, rest @ ..] = bytes else {
+        return Err(Refusal::PlanEnds);
+    };
+    let count = *count as usize;
+    if count < 1 || N < count {
+        return Err(Refusal::CountOutOfLimits);
+    }
+    read_some(count, rest, read)
 }
 
 // A signed number in four bytes, the highest first.
-fn read_value(bytes: &[u8]) -> Result<(i32, &[u8]), Refusal>
+fn read_value(bytes: &[u8]) -> Read<'_, i32>
     ensures { Reads (and_rest (λ z. z)) result (read_value bytes.now) }
 {
     let [a, b, c, d, rest @ ..] = bytes else {
@@ -36,26 +61,23 @@ fn read_value(bytes: &[u8]) -> Result<(i32, &[u8]), Refusal>
     Ok((i32::from_be_bytes([*a, *b, *c, *d]), rest))
 }
 
-#[derive(Drop)]
-struct Objects;
-
-impl Section for Objects {
-    type Item = Object;
-
-    ghost reads = { λ _ _. read_object };
-
-    fn read<'a>(&self, _before: &[Object], bytes: &'a [u8]) -> Result<(Object, &'a [u8]), Refusal> {
-        let (a, rest) = read_value(bytes)?;
-        let (b, rest) = read_value(rest)?;
-        let (c, rest) = read_value(rest)?;
-        let (d, rest) = read_value(rest)?;
-        let start = [a, b, c, d];
-        Ok((Object { start }, rest))
-    }
+// An object: its four start values.
+fn read_object(bytes: &[u8]) -> Read<'_, Object>
+    ensures { Reads (and_rest (λ o. o)) result (read_object bytes.now) }
+{
+    let (a, rest) = read_value(bytes)?;
+    let (b, rest) = read_value(rest)?;
+    let (c, rest) = read_value(rest)?;
+    let (d, rest) = read_value(rest)?;
+    let start = [a, b, c, d];
+    Ok((Object { start }, rest))
 }
 
-#[derive(Drop)]
-struct Rows;
+fn read_objects(bytes: &[u8]) -> Read<'_, ArrayVec<Object, MOST_OBJECTS>>
+    ensures { Reads (and_rest (λ v. v.items)) result (read_objects bytes.now) }
+{
+    read_short(bytes, |_, rest| read_object(rest))
+}
 
 fn is_bad(row: Row) -> bool
     ensures { result ≡ is_bad row }
@@ -70,51 +92,51 @@ fn last_period(rows: &[Row]) -> u16
     rows.last().map_or(0, |row| row.period)
 }
 
-impl Section for Rows {
-    type Item = Row;
-
-    ghost reads = { λ _. read_row };
-
-    fn read<'a>(&self, before: &[Row], bytes: &'a [u8]) -> Result<(Row, &'a [u8]), Refusal> {
-        let [a, b, c, d, rest @ ..] = bytes else {
-            return Err(Refusal::PlanEnds);
-        };
-        let row = Row {
-            period: u16::from_be_bytes([*a, *b]),
-            budget: u16::from_be_bytes([*c, *d]),
-        };
-        if is_bad(row) {
-            return Err(Refusal::BadRow);
-        }
-        if row.period < last_period(before) {
-            return Err(Refusal::PeriodFalls);
-        }
-        Ok((row, rest))
+// A row, after the rows before it: its period, then its budget.
+fn read_row<'a>(before: &[Row], bytes: &'a [u8]) -> Read<'a, Row>
+    ensures { Reads (and_rest (λ row. row)) result (read_row before.now bytes.now) }
+{
+    let [a, b, c, d, rest @ ..] = bytes else {
+        return Err(Refusal::PlanEnds);
+    };
+    let row = Row {
+        period: u16::from_be_bytes([*a, *b]),
+        budget: u16::from_be_bytes([*c, *d]),
+    };
+    if is_bad(row) {
+        return Err(Refusal::BadRow);
     }
+    if row.period < last_period(before) {
+        return Err(Refusal::PeriodFalls);
+    }
+    Ok((row, rest))
+}
+
+fn read_rows(bytes: &[u8]) -> Read<'_, ArrayVec<Row, MOST_TASKS>>
+    ensures { Reads (and_rest (λ v. v.items)) result (read_rows bytes.now) }
+{
+    read_short(bytes, read_row)
 }
 
 // How many tasks, objects and modes a use may name.
 #[derive(Drop)]
-struct Uses {
+struct Counts {
     tasks: usize,
     objects: usize,
     modes: u8,
 }
 
-impl Uses {
+impl Counts {
     fn has(&self, u: Use) -> bool
         ensures { result ≡ is_there self.now.tasks self.now.objects self.now.modes u }
     {
         (u.task as usize) < self.tasks && (u.object as usize) < self.objects && u.mode < self.modes
     }
-}
 
-impl Section for Uses {
-    type Item = Use;
-
-    ghost reads = { λ s. read_use s.tasks s.objects s.modes };
-
-    fn read<'a>(&self, before: &[Use], bytes: &'a [u8]) -> Result<(Use, &'a [u8]), Refusal> {
+    // A use, after the uses before it: its task, its object, its mode.
+    fn read_use<'a>(&self, before: &[Use], bytes: &'a [u8]) -> Read<'a, Use>
+        ensures { Reads (and_rest (λ u. u)) result (read_use self.now.tasks self.now.objects self.now.modes before.now bytes.now) }
+    {
         let [task, object, mode, rest @ ..] = bytes else {
             return Err(Refusal::PlanEnds);
         };
@@ -131,65 +153,19 @@ impl Section for Uses {
         }
         Ok((found, rest))
     }
-}
 
-// So many elements of a section.
-fn read_some<'a, S: Section, const N: usize>(
-    section: &S,
-    count: usize,
-    bytes: &'a [u8],
-) -> Result<(ArrayVec<S::Item, N>, &'a [u8]), Refusal>
-    requires { count ≤ N }
-    ensures { Reads (and_rest (λ v. v.items)) result (read_some (S.Section.reads section.now) count [] bytes.now) }
-{
-    let mut items = ArrayVec::new();
-    let mut rest = bytes;
-    while items.len() < count {
-        let (item, after) = section.read(&items, rest)?;
-        items.push(item);
-        rest = after;
+    fn read_uses<'a>(&self, bytes: &'a [u8]) -> Read<'a, ArrayVec<Use, MOST_USES>>
+        ensures { Reads (and_rest (λ v. v.items)) result (read_uses self.now.tasks self.now.objects self.now.modes bytes.now) }
+    {
+        let [high, low, rest @ ..] = bytes else {
+            return Err(Refusal::PlanEnds);
+        };
+        let count = u16::from_be_bytes([*high, *low]) as usize;
+        if MOST_USES < count {
+            return Err(Refusal::CountOutOfLimits);
+        }
+        read_some(count, rest, |before, rest| self.read_use(before, rest))
     }
-    Ok((items, rest))
-}
-
-// A section of 1 to N elements, after a count of one byte.
-fn read_short<'a, S: Section, const N: usize>(
-    section: &S,
-    bytes: &'a [u8],
-) -> Result<(ArrayVec<S::Item, N>, &'a [u8]), Refusal>
-    ensures { Reads (and_rest (λ v. v.items)) result (read_short (S.Section.reads section.now) N bytes.now) }
-{
-    let [count, rest @ ..] = bytes else {
-        return Err(Refusal::PlanEnds);
-    };
-    let count = *count as usize;
-    if count < 1 || N < count {
-        return Err(Refusal::CountOutOfLimits);
-    }
-    read_some(section, count, rest)
-}
-
-fn read_uses(
-    tasks: usize,
-    objects: usize,
-    modes: u8,
-    bytes: &[u8],
-) -> Result<(ArrayVec<Use, MOST_USES>, &[u8]), Refusal>
-    ensures { Reads (and_rest (λ v. v.items)) result (read_uses tasks objects modes bytes.now) }
-{
-    let [high, low, rest @ ..] = bytes else {
-        return Err(Refusal::PlanEnds);
-    };
-    let count = u16::from_be_bytes([*high, *low]) as usize;
-    if MOST_USES < count {
-        return Err(Refusal::CountOutOfLimits);
-    }
-    let section = Uses {
-        tasks,
-        objects,
-        modes,
-    };
-    read_some(&section, count, rest)
 }
 
 impl Plan {
@@ -199,9 +175,14 @@ impl Plan {
         ensures answer { Reads (and_rest contents) result (read_plan (R.meaning rule.now) input.now) }
         ensures law { AcceptedExactly (R.meaning rule.now) input.now }
     {
-        let (objects, rest) = read_short(&Objects, input)?;
-        let (rows, rest) = read_short(&Rows, rest)?;
-        let (uses, rest) = read_uses(rows.len(), objects.len(), rule.modes(), rest)?;
+        let (objects, rest) = read_objects(input)?;
+        let (rows, rest) = read_rows(rest)?;
+        let there = Counts {
+            tasks: rows.len(),
+            objects: objects.len(),
+            modes: rule.modes(),
+        };
+        let (uses, rest) = there.read_uses(rest)?;
         let plan = Plan {
             objects,
             rows,
