@@ -3,5 +3,4 @@ pub mod Sections
 pub mod Chains
 pub mod Elements
 pub mod Written
-pub mod Tables
 pub mod Reasons

@@ -1,20 +1,23 @@
--- Ceilings and bounds: one use more, and the laws that they keep. Assumes nothing.
-use Rattle.std.proofs.Common.{◌≡◌, ℕ, zero, suc, ◌+◌, ◌<◌, ◌≤◌, min, max, Bool, true, false, cond, ◌⊎◌, List, [], ◌∷◌, length, get_or, drop, Some, None, refl, ap, ◌∙◌, inl, inr, ⊎_elim, arith}
-use Rattle.std.specs.List.{ContainsAt}
-use Rattle.std.proofs.lemmas.List.{at_drop_more}
+-- Ceilings and bounds: the chains that take them, and the laws that they keep. Assumes nothing.
+use Rattle.std.proofs.Common.{◌≡◌, ℕ, zero, suc, ◌<◌, ◌≤◌, min, max, Bool, true, false, cond, ◌&&◌, eqb, ◌⊎◌, List, [], ◌∷◌, length, map, get_or, Some, None, refl, sym, ap, subst, ◌∙◌, inl, inr, ⊎_elim, arith}
+use Rattle.std.specs.List.{ContainsAt, find, filter, fold, reduce}
+use Rattle.std.specs.Option.{unwrap_or}
+use Rattle.std.specs.Ordering.{max_by_ordering, nat_cmp}
+use Rattle.std.proofs.lemmas.List.Folds.{max_of_map}
 use Rattle.std.proofs.lemmas.Bool.{cases_Bool, cases_lt, and_parts, and_from, eq-eqb, eqb-true, both_ways}
+use Rattle.std.proofs.ByRecursion.{has_get_or, has_append_right}
 use Rattle.rules.specs.Meaning.{Meaning}
-use Rattle.plans.specs.Contents.{Contents, budget_of, no_use}
-use Rattle.plans.specs.Ceilings.{excluded, ceiling, delays, bound_over, bound, first, attains, ceiling_reason, costs, bound_reason, CeilingLaw, BoundLaw}
+use Rattle.plans.specs.Contents.{Contents, budget_of}
+use Rattle.plans.specs.Ceilings.{excluded, ceiling, delays, bound_over, bound, ceiling_reason, bound_reason, CeilingLaw, BoundLaw}
 use Rattle.plans.specs.declared.parts.Use.{Use}
 
 -- ---- elements of a list
 
 has_head : {X : Type 0} (x : X) (xs : List X) → ContainsAt (x ∷ xs) x
-has_head x xs = (0, omega arith, λ d. refl)
+has_head x xs = has_get_or (x ∷ xs) 0 x (omega arith)
 
 has_tail : {X : Type 0} (y : X) (xs : List X) (x : X) → ContainsAt xs x → ContainsAt (y ∷ xs) x
-has_tail y xs x h = (suc h.0, omega (arith, h.1), λ d. h.2 d)
+has_tail y xs = has_append_right (y ∷ []) xs
 
 -- an element is the head, or stands behind it
 has_cases : {X : Type 0} (y : X) (xs : List X) (x : X) → ContainsAt (y ∷ xs) x → (y ≡ x) ⊎ ContainsAt xs x
@@ -29,124 +32,117 @@ has_none x h = omega (arith, h.1)
 
 -- ---- the first use that passes
 
-pub first_passes : (p : Use → Bool) (us : List Use) (u : Use) → first p us ≡ Some u → ContainsAt us u × (p u ≡ true)
-first_passes p [] u e = let z : ◌≡◌ {A = ℕ} 0 1 = cc in absurd (omega arith)
-first_passes p (v ∷ us) u e =
+find_passes : (p : Use → Bool) (us : List Use) (u : Use) → find p us ≡ Some u → ContainsAt us u × (p u ≡ true)
+find_passes p [] u e = let z : ◌≡◌ {A = ℕ} 0 1 = cc in absurd (omega arith)
+find_passes p (v ∷ us) u e =
     ⊎_elim
     (λ (yes' : p v ≡ true). let same : v ≡ u = cc in (rw (← same) (has_head v us), rw (← same) yes'))
-    (λ (no' : p v ≡ false). let later : first p us ≡ Some u = cc in (has_tail v us u (first_passes p us u later).0, (first_passes p us u later).1))
+    (λ (no' : p v ≡ false). let later : find p us ≡ Some u = cc in (has_tail v us u (find_passes p us u later).0, (find_passes p us u later).1))
     (cases_Bool (p v))
 
-pub first_none : (p : Use → Bool) (us : List Use) → first p us ≡ None → (u : Use) → ContainsAt us u → p u ≡ false
-first_none p [] e u h = absurd (has_none u h)
-first_none p (v ∷ us) e u h =
+find_none : (p : Use → Bool) (us : List Use) → find p us ≡ None → (u : Use) → ContainsAt us u → p u ≡ false
+find_none p [] e u h = absurd (has_none u h)
+find_none p (v ∷ us) e u h =
     ⊎_elim
     (λ (yes' : p v ≡ true). let z : ◌≡◌ {A = ℕ} 0 1 = cc in absurd (omega arith))
     (λ (no' : p v ≡ false).
-    let later : first p us ≡ None = cc in
-    ⊎_elim (λ (same : v ≡ u). rw (← same) no') (λ there. first_none p us later u there) (has_cases v us u h))
+    let later : find p us ≡ None = cc in
+    ⊎_elim (λ (same : v ≡ u). rw (← same) no') (λ there. find_none p us later u there) (has_cases v us u h))
     (cases_Bool (p v))
 
--- one use more
-pub first_more : (p : Use → Bool) (uses : List Use) (i : ℕ) → i < length uses → (passes : Bool) → p (get_or uses i no_use) ≡ passes → first p (drop i uses) ≡ cond passes (Some (get_or uses i no_use)) (first p (drop (i + 1) uses))
-first_more p uses i l passes e = at_drop_more (first p) uses i no_use l ∙ rw e
+-- ---- the best value of the uses that pass, and what stands for it where none does
+
+module _ (passes : Use → Bool) (value : Use → ℕ) (pick : ℕ → ℕ → ℕ) (none : ℕ) where
+  abbrev best : List Use → ℕ
+  best [] = none
+  best (u ∷ us) = cond (passes u) (pick (value u) (best us)) (best us)
+
+  -- the chain that takes it
+  best_folds : ((a b c : ℕ) → pick (pick a b) c ≡ pick (pick a c) b) → ((a b c : ℕ) → pick (pick a b) c ≡ pick a (pick b c)) → (us : List Use) (a : ℕ) → fold (λ b u. pick b (value u)) (pick a none) (filter passes us) ≡ pick a (best us)
+  best_folds swap assoc [] a = refl
+  best_folds swap assoc (u ∷ us) a =
+      elim (passes u) as (λ b. fold (λ b u. pick b (value u)) (pick a none) (cond b (u ∷ filter passes us) (filter passes us)) ≡ pick a (cond b (pick (value u) (best us)) (best us))) [
+        | true ↦ ap (λ b. fold (λ b u. pick b (value u)) b (filter passes us)) (swap a none (value u)) ∙ best_folds swap assoc us (pick a (value u)) ∙ assoc a (value u) (best us)
+        | false ↦ best_folds swap assoc us a
+      ]
+
+  -- no use that passes has a better one
+  best_bounds : (R : ℕ → ℕ → Type 0) → ((a b : ℕ) → R (pick a b) a) → ((a b c : ℕ) → R b c → R (pick a b) c) → (us : List Use) (u : Use) → ContainsAt us u → passes u ≡ true → R (best us) (value u)
+  best_bounds R first more [] u h e = absurd (has_none u h)
+  best_bounds R first more (v ∷ us) u h e =
+      ⊎_elim
+      (λ (same : v ≡ u). let here : passes v ≡ true = rw same e in rw here (subst (λ w. R (pick (value v) (best us)) (value w)) same (first (value v) (best us))))
+      (λ there. elim (passes v) as (λ b. R (cond b (pick (value v) (best us)) (best us)) (value u)) [ true ↦ more (value v) (best us) (value u) (best_bounds R first more us u there e) | false ↦ best_bounds R first more us u there e ])
+      (has_cases v us u h)
+
+  -- some use that passes has it, or none does
+  abbrev Attained : List Use → ℕ → Type 0
+  Attained us n = ((u : Use) × ContainsAt us u × (passes u ≡ true) × (value u ≡ n)) ⊎ (n ≡ none)
+
+  module _ (picks : (a b : ℕ) → (pick a b ≡ a) ⊎ (pick a b ≡ b)) where
+    best_attained : (us : List Use) → Attained us (best us)
+    best_attained [] = inr refl
+    best_attained (v ∷ us) =
+        let later : best (v ∷ us) ≡ best us → Attained (v ∷ us) (best (v ∷ us)) = λ e. ⊎_elim (λ a. inl (a.0, has_tail v us a.0 a.1, a.2, a.3 ∙ sym e)) (λ a. inr (e ∙ a)) (best_attained us) in
+        ⊎_elim
+        (λ (here : passes v ≡ true). ⊎_elim (λ (e : pick (value v) (best us) ≡ value v). inl (v, has_head v us, here, rw here (sym e))) (λ (e : pick (value v) (best us) ≡ best us). later (rw here e)) (picks (value v) (best us)))
+        (λ (off : passes v ≡ false). later (rw off refl))
+        (cases_Bool (passes v))
+
+    -- the first use that passes with the best value is the reason for it
+    reason_attains : (us : List Use) (u : Use) → find (λ w. passes w && eqb (value w) (best us)) us ≡ Some u → ContainsAt us u × (passes u ≡ true) × (value u ≡ best us)
+    reason_attains us u e =
+        let found = find_passes (λ w. passes w && eqb (value w) (best us)) us u e in
+        let parts = and_parts _ _ found.1 in
+        (found.0, parts.0, eqb-true _ _ parts.1)
+
+    free_of_reason : (us : List Use) → find (λ w. passes w && eqb (value w) (best us)) us ≡ None → best us ≡ none
+    free_of_reason us e =
+        ⊎_elim
+        (λ a. absurd (both_ways _ (find_none (λ w. passes w && eqb (value w) (best us)) us e a.0 a.1) (and_from _ _ a.2 (eq-eqb _ _ a.3))))
+        (λ (free : best us ≡ none). free)
+        (best_attained us)
 
 -- ---- ceilings
 
 module _ (m : Meaning) (object held : ℕ) where
-  pub ceiling_le : (us : List Use) → ceiling m us object held ≤ 16
+  ceiling_is : (us : List Use) → ceiling m us object held ≡ best (excluded m object held) (λ u. u.task) min 16 us
+  ceiling_is [] = refl
+  ceiling_is (u ∷ us) = ap (λ rest. cond (excluded m object held u) (min u.task rest) rest) (ceiling_is us)
+
+  ceiling_le : (us : List Use) → ceiling m us object held ≤ 16
   ceiling_le [] = omega arith
   ceiling_le (u ∷ us) = elim (excluded m object held u) as (λ b. cond b (min u.task (ceiling m us object held)) (ceiling m us object held) ≤ 16) [ true ↦ omega (arith, ceiling_le us) | false ↦ ceiling_le us ]
 
-  pub ceiling_least : (us : List Use) (u : Use) → ContainsAt us u → excluded m object held u ≡ true → ceiling m us object held ≤ u.task
-  ceiling_least [] u h e = absurd (has_none u h)
-  ceiling_least (v ∷ us) u h e =
-      ⊎_elim
-      (λ (same : v ≡ u). let here : excluded m object held v ≡ true = rw same e in let t = ap (λ (w : Use). w.task) same in rw here (omega (arith, t)))
-      (λ there. elim (excluded m object held v) as (λ b. cond b (min v.task (ceiling m us object held)) (ceiling m us object held) ≤ u.task) [ true ↦ omega (arith, ceiling_least us u there e) | false ↦ ceiling_least us u there e ])
-      (has_cases v us u h)
+  pub ceiling_by_min : (us : List Use) → fold (λ a u. min a u.task) 16 (filter (excluded m object held) us) ≡ ceiling m us object held
+  ceiling_by_min us = omega (arith, best_folds (excluded m object held) (λ u. u.task) min 16 (λ a b c. omega arith) (λ a b c. omega arith) us 16, ceiling_is us, ceiling_le us)
 
-  -- some excluded use has the ceiling for its task, or it is 16
-  ceiling_attained : (us : List Use) → ((u : Use) × ContainsAt us u × (excluded m object held u ≡ true) × (u.task ≡ ceiling m us object held)) ⊎ (ceiling m us object held ≡ 16)
-  ceiling_attained [] = inr refl
-  ceiling_attained (v ∷ us) =
-      ⊎_elim
-      (λ (here : excluded m object held v ≡ true).
-      ⊎_elim
-      (λ (lower : ceiling m us object held < v.task).
-      let less : min v.task (ceiling m us object held) ≡ ceiling m us object held = omega arith in
-      ⊎_elim (λ a. inl (a.0, has_tail v us a.0 a.1, a.2, rw (here, less) a.3)) (λ a. inr (rw (here, less) a)) (ceiling_attained us))
-      (λ (higher : v.task ≤ ceiling m us object held). inl (v, has_head v us, here, rw here (omega arith)))
-      (cases_lt (ceiling m us object held) v.task))
-      (λ (not_here : excluded m object held v ≡ false).
-      ⊎_elim (λ a. inl (a.0, has_tail v us a.0 a.1, a.2, rw not_here a.3)) (λ a. inr (rw not_here a)) (ceiling_attained us))
-      (cases_Bool (excluded m object held v))
+  lowest_or : (a b : ℕ) → (min a b ≡ a) ⊎ (min a b ≡ b)
+  lowest_or a b = ⊎_elim (λ (l : a < b). inl (omega arith)) (λ (l : b ≤ a). inr (omega arith)) (cases_lt a b)
 
   pub ceiling_law : (uses : List Use) → CeilingLaw m uses object held (ceiling m uses object held) (ceiling_reason m uses object held)
-  ceiling_law uses = record {
-    least = ceiling_least uses;
-    attained = λ u e.
-        let found = first_passes (attains m object held (ceiling m uses object held)) uses u e in
-        let parts = and_parts _ _ found.1 in
-        (found.0, parts.0, eqb-true _ _ parts.1);
-    free = λ e.
-        ⊎_elim
-        (λ a. absurd (both_ways _ (first_none (attains m object held (ceiling m uses object held)) uses e a.0 a.1) (and_from _ _ a.2 (eq-eqb _ _ a.3))))
-        (λ (none : ceiling m uses object held ≡ 16). none)
-        (ceiling_attained uses);
+  ceiling_law uses = rw (ceiling_is uses) record {
+    least = best_bounds _ _ min 16 (λ c task. c ≤ task) (λ a b. omega arith) (λ a b c l. omega arith) uses;
+    attained = reason_attains (excluded m object held) (λ u. u.task) min 16 lowest_or uses;
+    free = free_of_reason (excluded m object held) (λ u. u.task) min 16 lowest_or uses;
   }
-
-  -- one use more
-  pub ceiling_more : (uses : List Use) (i least : ℕ) → i < length uses → excluded m object held (get_or uses i no_use) ≡ true → min least (ceiling m (drop i uses) object held) ≡ min (min least (get_or uses i no_use).task) (ceiling m (drop (i + 1) uses) object held)
-  ceiling_more uses i least l e = let step = at_drop_more (λ us. ceiling m us object held) uses i no_use l in rw (step, e) (omega arith)
-
-  pub ceiling_skip : (uses : List Use) (i : ℕ) → i < length uses → excluded m object held (get_or uses i no_use) ≡ false → ceiling m (drop i uses) object held ≡ ceiling m (drop (i + 1) uses) object held
-  ceiling_skip uses i l e = let step = at_drop_more (λ us. ceiling m us object held) uses i no_use l in rw (step, e)
 
 -- ---- bounds
 
 module _ (m : Meaning) (plan : Contents) (task : ℕ) where
-  bound_greatest : (us : List Use) (u : Use) → ContainsAt us u → delays m plan.uses task u ≡ true → budget_of plan u.task ≤ bound_over m plan task us
-  bound_greatest [] u h e = absurd (has_none u h)
-  bound_greatest (v ∷ us) u h e =
-      ⊎_elim
-      (λ (same : v ≡ u). let here : delays m plan.uses task v ≡ true = rw same e in let t = ap (λ (w : Use). budget_of plan w.task) same in rw here (omega (arith, t)))
-      (λ there. elim (delays m plan.uses task v) as (λ b. budget_of plan u.task ≤ cond b (max (budget_of plan v.task) (bound_over m plan task us)) (bound_over m plan task us)) [ true ↦ omega (arith, bound_greatest us u there e) | false ↦ bound_greatest us u there e ])
-      (has_cases v us u h)
+  bound_is : (us : List Use) → bound_over m plan task us ≡ best (delays m plan.uses task) (λ u. budget_of plan u.task) max 0 us
+  bound_is [] = refl
+  bound_is (u ∷ us) = ap (λ rest. cond (delays m plan.uses task u) (max (budget_of plan u.task) rest) rest) (bound_is us)
 
-  -- some use that delays the task has the bound for its task's budget, or the bound is 0
-  bound_attained : (us : List Use) → ((u : Use) × ContainsAt us u × (delays m plan.uses task u ≡ true) × (budget_of plan u.task ≡ bound_over m plan task us)) ⊎ (bound_over m plan task us ≡ 0)
-  bound_attained [] = inr refl
-  bound_attained (v ∷ us) =
-      ⊎_elim
-      (λ (here : delays m plan.uses task v ≡ true).
-      ⊎_elim
-      (λ (less : budget_of plan v.task < bound_over m plan task us).
-      let more : max (budget_of plan v.task) (bound_over m plan task us) ≡ bound_over m plan task us = omega arith in
-      ⊎_elim (λ a. inl (a.0, has_tail v us a.0 a.1, a.2, rw (here, more) a.3)) (λ a. inr (rw (here, more) a)) (bound_attained us))
-      (λ (enough : bound_over m plan task us ≤ budget_of plan v.task). inl (v, has_head v us, here, rw here (omega arith)))
-      (cases_lt (budget_of plan v.task) (bound_over m plan task us)))
-      (λ (not_here : delays m plan.uses task v ≡ false).
-      ⊎_elim (λ a. inl (a.0, has_tail v us a.0 a.1, a.2, rw not_here a.3)) (λ a. inr (rw not_here a)) (bound_attained us))
-      (cases_Bool (delays m plan.uses task v))
+  pub bound_by_max : unwrap_or (reduce (λ p z. max_by_ordering (nat_cmp p z) p z) (map (λ u. budget_of plan u.task) (filter (delays m plan.uses task) plan.uses))) 0 ≡ bound m plan task
+  bound_by_max = max_of_map (λ u. budget_of plan u.task) (filter (delays m plan.uses task) plan.uses) ∙ omega (arith, best_folds (delays m plan.uses task) (λ u. budget_of plan u.task) max 0 (λ a b c. omega arith) (λ a b c. omega arith) plan.uses 0, bound_is plan.uses)
+
+  highest_or : (a b : ℕ) → (max a b ≡ a) ⊎ (max a b ≡ b)
+  highest_or a b = ⊎_elim (λ (l : a < b). inr (omega arith)) (λ (l : b ≤ a). inl (omega arith)) (cases_lt a b)
 
   pub bound_law : BoundLaw m plan task (bound m plan task) (bound_reason m plan task)
-  bound_law = record {
-    greatest = bound_greatest plan.uses;
-    attained = λ u e.
-        let found = first_passes (costs m plan task (bound m plan task)) plan.uses u e in
-        let parts = and_parts _ _ found.1 in
-        (found.0, parts.0, eqb-true _ _ parts.1);
-    free = λ e.
-        ⊎_elim
-        (λ a. absurd (both_ways _ (first_none (costs m plan task (bound m plan task)) plan.uses e a.0 a.1) (and_from _ _ a.2 (eq-eqb _ _ a.3))))
-        (λ (none : bound m plan task ≡ 0). none)
-        (bound_attained plan.uses);
+  bound_law = rw (bound_is plan.uses) record {
+    greatest = best_bounds _ _ max 0 (λ b budget. budget ≤ b) (λ a b. omega arith) (λ a b c l. omega arith) plan.uses;
+    attained = reason_attains (delays m plan.uses task) (λ u. budget_of plan u.task) max 0 highest_or plan.uses;
+    free = free_of_reason (delays m plan.uses task) (λ u. budget_of plan u.task) max 0 highest_or plan.uses;
   }
-
-  -- one use more
-  pub bound_more : (uses : List Use) (i greatest : ℕ) → i < length uses → delays m plan.uses task (get_or uses i no_use) ≡ true → max greatest (bound_over m plan task (drop i uses)) ≡ max (max greatest (budget_of plan (get_or uses i no_use).task)) (bound_over m plan task (drop (i + 1) uses))
-  bound_more uses i greatest l e = let step = at_drop_more (bound_over m plan task) uses i no_use l in rw (step, e) (omega arith)
-
-  pub bound_skip : (uses : List Use) (i : ℕ) → i < length uses → delays m plan.uses task (get_or uses i no_use) ≡ false → bound_over m plan task (drop i uses) ≡ bound_over m plan task (drop (i + 1) uses)
-  bound_skip uses i l e = let step = at_drop_more (bound_over m plan task) uses i no_use l in rw (step, e)

@@ -1,6 +1,6 @@
 -- Ceilings and bounds, the laws that they keep, and the reasons given for them. docs/RULES.md has them in words. Assumes nothing.
 use Rattle.std.specs.Prelude.{◌≡◌, ℕ, ◌≤◌, min, max, Bool, true, cond, ◌&&◌, List, [], ◌∷◌, Some, None, Option, ◌==◌, nat_le, nat_lt}
-use Rattle.std.specs.List.{ContainsAt}
+use Rattle.std.specs.List.{ContainsAt, find}
 use Rattle.rules.specs.Meaning.{Meaning}
 use Rattle.plans.specs.Contents.{Contents, budget_of}
 use Rattle.plans.specs.declared.parts.Use.{Use}
@@ -26,18 +26,13 @@ bound_over m plan task (u ∷ us) = let rest = bound_over m plan task us in cond
 abbrev pub bound : Meaning → Contents → ℕ → ℕ
 bound m plan task = bound_over m plan task plan.uses
 
--- the first use that passes
-abbrev pub first : (Use → Bool) → List Use → Option Use
-first p [] = None
-first p (u ∷ us) = let rest = first p us in cond (p u) (Some u) rest
-
 -- the use is excluded, and its task is this one
 abbrev pub attains : Meaning → ℕ → ℕ → ℕ → Use → Bool
 attains m object held c u = excluded m object held u && u.task == c
 
 -- the reason for a ceiling: the first use that attains it
 abbrev pub ceiling_reason : Meaning → List Use → ℕ → ℕ → Option Use
-ceiling_reason m uses object held = first (attains m object held (ceiling m uses object held)) uses
+ceiling_reason m uses object held = find (attains m object held (ceiling m uses object held)) uses
 
 -- the use delays the task, and the budget of its own task is this one
 abbrev pub costs : Meaning → Contents → ℕ → ℕ → Use → Bool
@@ -45,7 +40,7 @@ costs m plan task b u = delays m plan.uses task u && budget_of plan u.task == b
 
 -- the reason for a bound: the first use that costs it
 abbrev pub bound_reason : Meaning → Contents → ℕ → Option Use
-bound_reason m plan task = first (costs m plan task (bound m plan task)) plan.uses
+bound_reason m plan task = find (costs m plan task (bound m plan task)) plan.uses
 
 -- the law of a ceiling c and of the use that is given as its reason, for an object held in a mode
 pub record CeilingLaw (m : Meaning) (uses : List Use) (object held c : ℕ) (reason : Option Use) : Type 0 where

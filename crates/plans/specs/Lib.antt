@@ -1,9 +1,9 @@
 pub mod Refusals
-pub mod Tables
 pub mod Contents
 pub mod Plans
 pub mod Limits
 pub mod Reading
+pub mod Results
 pub mod Written
 pub mod Ceilings
 pub mod Answers

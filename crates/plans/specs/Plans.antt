@@ -1,7 +1,6 @@
--- What a plan's tables hold. Assumes nothing.
+-- What a plan holds. Assumes nothing.
 use Rattle.plans.specs.Contents.{Contents}
-use Rattle.plans.specs.Tables.{items}
 use Rattle.plans.specs.declared.plan.Plan.{Plan}
 
 abbrev pub contents : Plan → Contents
-contents p = record { objects = items p.objects; rows = items p.rows; uses = items p.uses }
+contents p = record { objects = p.objects.items; rows = p.rows.items; uses = p.uses.items }

@@ -101,12 +101,6 @@ abbrev pub read_uses : ℕ → ℕ → ℕ → List ℕ → Read (List Use)
 read_uses tasks objects modes bytes =
     taking 2 bytes (counted 0 512 (slice_index bytes 0 * 256 + slice_index bytes 1) (λ n. read_some (read_use tasks objects modes) n [] (drop 2 bytes)))
 
--- what follows the objects: the rows and the uses
-abbrev pub read_others : Meaning → List Object → List ℕ → Read Contents
-read_others m objects bytes =
-    and_then (read_rows bytes) (λ rows bytes₁. and_then (read_uses (length rows) (length objects) m.modes bytes₁)
-    (λ uses rest. Ok (record { objects = objects; rows = rows; uses = uses }, rest)))
-
 -- a plan at the front of the bytes
 abbrev pub read_plan : Meaning → List ℕ → Read Contents
 read_plan m bytes =

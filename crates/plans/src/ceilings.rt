@@ -2,7 +2,7 @@
 ghost use Rattle.std.specs.Prelude.{◌≡◌, IfOk};
 ghost use Rattle.plans.specs.Answers.{ceiling_answer, bound_answer};
 ghost use Rattle.plans.specs.Plans.{contents};
-ghost use Rattle.plans.specs.Ceilings.{excluded, ceiling, first, attains, delays, costs, bound_over, CeilingLaw, BoundLaw};
+ghost use Rattle.plans.specs.Ceilings.{excluded, ceiling, attains, delays, costs, bound, CeilingLaw, BoundLaw};
 
 use crate::parts::Use;
 use crate::plan::Plan;
@@ -27,90 +27,76 @@ pub struct Bound {
     pub reason: Option<Use>,
 }
 
-fn is_excluded<R: LockRule>(rule: &R, object: usize, held: u8, u: Use) -> bool
-    ensures { result ≡ excluded (R.meaning rule.now) object held u }
-{
-    u.object as usize == object && rule.clashes(held, u.mode)
-}
-
-fn ceiling_of<R: LockRule>(rule: &R, uses: &[Use], object: usize, held: u8) -> u8
-    ensures { result ≡ ceiling (R.meaning rule.now) uses.now object held }
-{
-    let mut least = NO_TASK;
-    for u in uses {
-        if is_excluded(rule, object, held, *u) {
-            least = least.min(u.task);
-        }
-    }
-    least
-}
-
-// Whether the use is a reason for the ceiling.
-fn attains<R: LockRule>(rule: &R, object: usize, held: u8, ceiling: u8, u: Use) -> bool
-    ensures { result ≡ attains (R.meaning rule.now) object held ceiling u }
-{
-    is_excluded(rule, object, held, u) && u.task == ceiling
-}
-
-fn first_attaining<R: LockRule>(
-    rule: &R,
+// A lock under a rule: its object, and the mode that it is held in.
+#[derive(Drop)]
+struct Held<'a, R> {
+    rule: &'a R,
     object: usize,
-    held: u8,
-    ceiling: u8,
-    uses: &[Use],
-) -> Option<Use>
-    ensures { result ≡ first (attains (R.meaning rule.now) object held ceiling) uses.now }
-{
-    for u in uses {
-        if attains(rule, object, held, ceiling, *u) {
-            return Some(*u);
-        }
+    mode: u8,
+}
+
+impl<'a, R: LockRule> Held<'a, R> {
+    fn excludes(&self, u: &Use) -> bool
+        ensures { result ≡ excluded (R.meaning self.now.rule.now) self.now.object self.now.mode u.now }
+    {
+        u.object as usize == self.object && self.rule.clashes(self.mode, u.mode)
     }
-    None
-}
 
-// Whether a lower task's lock can keep the task waiting.
-fn delays<R: LockRule>(rule: &R, uses: &[Use], task: usize, u: Use) -> bool
-    ensures { result ≡ delays (R.meaning rule.now) uses.now task u }
-{
-    task < u.task as usize && task >= ceiling_of(rule, uses, u.object as usize, u.mode) as usize
-}
-
-// The greatest budget behind these uses.
-fn bound_over<R: LockRule>(rule: &R, plan: &Plan, task: usize, uses: &[Use]) -> u16
-    ensures { result ≡ bound_over (R.meaning rule.now) (contents plan.now) task uses.now }
-{
-    let mut greatest: u16 = 0;
-    for u in uses {
-        if delays(rule, plan.uses(), task, *u) {
-            greatest = greatest.max(plan.budget(u.task as usize));
-        }
+    fn ceiling(&self, uses: &[Use]) -> u8
+        ensures { result ≡ ceiling (R.meaning self.now.rule.now) uses.now self.now.object self.now.mode }
+    {
+        uses.iter()
+            .filter(|u| self.excludes(u))
+            .fold(NO_TASK, |least, u| least.min(u.task))
     }
-    greatest
+
+    // Whether the use is a reason for the ceiling.
+    fn attains(&self, ceiling: u8, u: &Use) -> bool
+        ensures { result ≡ attains (R.meaning self.now.rule.now) self.now.object self.now.mode ceiling u.now }
+    {
+        self.excludes(u) && u.task == ceiling
+    }
 }
 
-// Whether the use is a reason for the bound.
-fn costs<R: LockRule>(rule: &R, plan: &Plan, task: usize, bound: u16, u: Use) -> bool
-    ensures { result ≡ costs (R.meaning rule.now) (contents plan.now) task bound u }
-{
-    delays(rule, plan.uses(), task, u) && plan.budget(u.task as usize) == bound
-}
-
-fn first_cost<R: LockRule>(
-    rule: &R,
-    plan: &Plan,
+// A task of a plan, which lower tasks can hold up under a rule.
+#[derive(Drop)]
+struct HeldUp<'a, R> {
+    rule: &'a R,
+    plan: &'a Plan,
     task: usize,
-    bound: u16,
-    uses: &[Use],
-) -> Option<Use>
-    ensures { result ≡ first (costs (R.meaning rule.now) (contents plan.now) task bound) uses.now }
-{
-    for u in uses {
-        if costs(rule, plan, task, bound, *u) {
-            return Some(*u);
-        }
+}
+
+impl<'a, R: LockRule> HeldUp<'a, R> {
+    // Whether a lower task's lock can keep the task waiting.
+    fn is_delayed_by(&self, u: &Use) -> bool
+        ensures { result ≡ delays (R.meaning self.now.rule.now) (contents self.now.plan.now).uses self.now.task u.now }
+    {
+        let held = Held {
+            rule: self.rule,
+            object: u.object as usize,
+            mode: u.mode,
+        };
+        self.task < u.task as usize && self.task >= held.ceiling(self.plan.uses()) as usize
     }
-    None
+
+    fn bound(&self) -> u16
+        ensures { result ≡ bound (R.meaning self.now.rule.now) (contents self.now.plan.now) self.now.task }
+    {
+        self.plan
+            .uses()
+            .iter()
+            .filter(|u| self.is_delayed_by(u))
+            .map(|u| self.plan.budget(u.task as usize))
+            .max()
+            .unwrap_or(0)
+    }
+
+    // Whether the use is a reason for the bound.
+    fn costs(&self, bound: u16, u: &Use) -> bool
+        ensures { result ≡ costs (R.meaning self.now.rule.now) (contents self.now.plan.now) self.now.task bound u.now }
+    {
+        self.is_delayed_by(u) && self.plan.budget(u.task as usize) == bound
+    }
 }
 
 impl Plan {
@@ -127,12 +113,14 @@ impl Plan {
         if object >= self.objects().len() || mode >= rule.modes() as usize {
             return Err(Refusal::NumberNotThere);
         }
-        let held = mode as u8;
-        let value = ceiling_of(rule, self.uses(), object, held);
-        Ok(Ceiling {
-            value,
-            reason: first_attaining(rule, object, held, value, self.uses()),
-        })
+        let held = Held {
+            rule,
+            object,
+            mode: mode as u8,
+        };
+        let value = held.ceiling(self.uses());
+        let reason = self.uses().iter().copied().find(|u| held.attains(value, u));
+        Ok(Ceiling { value, reason })
     }
 
     // The bound of a task.
@@ -143,10 +131,17 @@ impl Plan {
         if task >= self.rows().len() {
             return Err(Refusal::NumberNotThere);
         }
-        let value = bound_over(rule, self, task, self.uses());
-        Ok(Bound {
-            value,
-            reason: first_cost(rule, self, task, value, self.uses()),
-        })
+        let held_up = HeldUp {
+            rule,
+            plan: self,
+            task,
+        };
+        let value = held_up.bound();
+        let reason = self
+            .uses()
+            .iter()
+            .copied()
+            .find(|u| held_up.costs(value, u));
+        Ok(Bound { value, reason })
     }
 }

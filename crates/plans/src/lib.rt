@@ -6,7 +6,6 @@ mod parts;
 mod plan;
 mod reader;
 mod refusal;
-mod table;
 
 pub use ceilings::{Bound, Ceiling};
 pub use parts::{Object, Row, Use};

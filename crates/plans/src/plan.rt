@@ -4,7 +4,7 @@ ghost use Rattle.plans.specs.Contents.{budget_of};
 ghost use Rattle.plans.specs.Plans.{contents};
 
 use crate::parts::{Object, Row, Use};
-use crate::table::Table;
+use arrayvec::ArrayVec;
 
 // Cells are numbered 4 × object + part, and 32 objects fill the 128 cells.
 pub const MOST_OBJECTS: usize = 32;
@@ -16,9 +16,9 @@ pub const MOST_USES: usize = 512;
 // Rows are numbered from 0; a task with a smaller number is higher.
 #[derive(Drop)]
 pub struct Plan {
-    pub(crate) objects: Table<Object, MOST_OBJECTS>,
-    pub(crate) rows: Table<Row, MOST_TASKS>,
-    pub(crate) uses: Table<Use, MOST_USES>,
+    pub(crate) objects: ArrayVec<Object, MOST_OBJECTS>,
+    pub(crate) rows: ArrayVec<Row, MOST_TASKS>,
+    pub(crate) uses: ArrayVec<Use, MOST_USES>,
 }
 
 impl Plan {
@@ -44,11 +44,6 @@ impl Plan {
     pub fn budget(&self, task: usize) -> u16
         ensures { result ≡ budget_of (contents self.now) task }
     {
-        let rows = self.rows();
-        if task < rows.len() {
-            rows[task].budget
-        } else {
-            0
-        }
+        self.rows().get(task).map_or(0, |row| row.budget)
     }
 }

@@ -1,73 +1,82 @@
 // Reading a plan from bytes. docs/PLAN.md has the format.
-ghost use Rattle.std.specs.Prelude.{◌≡◌, ℕ, ◌≤◌, List, [], length, Ok, Err, MatchResult};
-ghost use Rattle.plans.specs.Reading.{Read, value_in, row_in, read_object, read_row, read_use, read_some, read_short, read_rows, read_uses, read_others, read_plan, read_whole, last_row, is_bad, is_there, same_use, stands_in};
+ghost use Rattle.std.specs.Prelude.{◌≡◌, ℕ, ◌≤◌, List, []};
+ghost use Rattle.plans.specs.Reading.{Read, read_value, read_object, read_row, read_use, read_some, read_short, read_objects, read_rows, read_uses, read_plan, read_whole, last_row, is_bad, is_there};
+ghost use Rattle.plans.specs.Results.{Reads, ReadsBy, and_rest};
 ghost use Rattle.plans.specs.Plans.{contents};
-ghost use Rattle.plans.specs.Tables.{items};
 ghost use Rattle.plans.specs.Written.{AcceptedExactly, AcceptedWhole};
 
 use crate::parts::{Object, Row, Use};
 use crate::plan::{MOST_OBJECTS, MOST_TASKS, MOST_USES, Plan};
 use crate::refusal::Refusal;
-use crate::table::Table;
+use arrayvec::ArrayVec;
 use rules::LockRule;
 
-// How one element of a section is read, after those before it.
-trait Section {
-    type Item: Copy;
+// What was read and the bytes after it, or the first fault.
+type Read<'a, T> = Result<(T, &'a [u8]), Refusal>;
 
-    ghost reads: { Self → List Self.Item → List ℕ → Read Self.Item };
-
-    // The element and the bytes after it, or the first fault.
-    fn read<'a>(
-        &self,
-        before: &[Self::Item],
-        bytes: &'a [u8],
-    ) -> Result<(Self::Item, &'a [u8]), Refusal>
-        ensures { MatchResult result (λ p. reads self.now before.now bytes.now ≡ Ok (p.0, p.1.now)) (λ why. reads self.now before.now bytes.now ≡ Err why) };
-}
-
-// The signed number in the first four bytes, the highest first.
-fn value_in(bytes: &[u8]) -> i32
-    requires { 4 ≤ length bytes.now }
-    ensures { result ≡ value_in bytes.now }
+// So many elements of a section, each read after those before it.
+fn read_some<T, const N: usize, F>(count: usize, bytes: &[u8], read: F) -> Read<'_, ArrayVec<T, N>>
+where
+    T: Copy + Default,
+    F: for<'b> Fn(&[T], &'b [u8]) -> Read<'b, T>,
+    requires room { count ≤ N }
+    requires callable { F.IsAlwaysCallable read }
+    ensures { (one : List T → List ℕ → Read T) → ReadsBy F.Fn read one → Reads (and_rest (λ v. v.items)) result (read_some one count [] bytes.now) }
 {
-    i32::from_be_bytes([bytes[0], bytes[1], bytes[2], bytes[3]])
-}
-
-#[derive(Drop)]
-struct Objects;
-
-impl Section for Objects {
-    type Item = Object;
-
-    ghost reads = { λ _ _. read_object };
-
-    fn read<'a>(&self, _before: &[Object], bytes: &'a [u8]) -> Result<(Object, &'a [u8]), Refusal> {
-        if bytes.len() < 16 {
-            return Err(Refusal::PlanEnds);
-        }
-        let start = [
-            value_in(bytes),
-            value_in(&bytes[4..]),
-            value_in(&bytes[8..]),
-            value_in(&bytes[12..]),
-        ];
-        Ok((Object { start }, &bytes[16..]))
+    let mut items = ArrayVec::new();
+    let mut rest = bytes;
+    while items.len() < count {
+        let (item, after) = read(&items, rest)?;
+        items.push(item);
+        rest = after;
     }
+    Ok((items, rest))
 }
 
-#[derive(Drop)]
-struct Rows;
-
-// The row in the first four bytes: its period, then its budget.
-fn row_in(bytes: &[u8]) -> Row
-    requires { 4 ≤ length bytes.now }
-    ensures { result ≡ row_in bytes.now }
+// A section of 1 to N elements, after a count of one byte.
+fn read_short<T, const N: usize, F>(bytes: &[u8], read: F) -> Read<'_, ArrayVec<T, N>>
+where
+    T: Copy + Default,
+    F: for<'b> Fn(&[T], &'b [u8]) -> Read<'b, T>,
+    requires { F.IsAlwaysCallable read }
+    ensures { (one : List T → List ℕ → Read T) → ReadsBy F.Fn read one → Reads (and_rest (λ v. v.items)) result (read_short one N bytes.now) }
 {
-    Row {
-        period: u16::from_be_bytes([bytes[0], bytes[1]]),
-        budget: u16::from_be_bytes([bytes[2], bytes[3]]),
+    let [count, rest @ ..] = bytes else {
+        return Err(Refusal::PlanEnds);
+    };
+    let count = *count as usize;
+    if count < 1 || N < count {
+        return Err(Refusal::CountOutOfLimits);
     }
+    read_some(count, rest, read)
+}
+
+// A signed number in four bytes, the highest first.
+fn read_value(bytes: &[u8]) -> Read<'_, i32>
+    ensures { Reads (and_rest (λ z. z)) result (read_value bytes.now) }
+{
+    let [a, b, c, d, rest @ ..] = bytes else {
+        return Err(Refusal::PlanEnds);
+    };
+    Ok((i32::from_be_bytes([*a, *b, *c, *d]), rest))
+}
+
+// An object: its four start values.
+fn read_object(bytes: &[u8]) -> Read<'_, Object>
+    ensures { Reads (and_rest (λ o. o)) result (read_object bytes.now) }
+{
+    let (a, rest) = read_value(bytes)?;
+    let (b, rest) = read_value(rest)?;
+    let (c, rest) = read_value(rest)?;
+    let (d, rest) = read_value(rest)?;
+    let start = [a, b, c, d];
+    Ok((Object { start }, rest))
+}
+
+fn read_objects(bytes: &[u8]) -> Read<'_, ArrayVec<Object, MOST_OBJECTS>>
+    ensures { Reads (and_rest (λ v. v.items)) result (read_objects bytes.now) }
+{
+    read_short(bytes, |_, rest| read_object(rest))
 }
 
 fn is_bad(row: Row) -> bool
@@ -80,71 +89,54 @@ fn is_bad(row: Row) -> bool
 fn last_period(rows: &[Row]) -> u16
     ensures { result ≡ (last_row rows.now).period }
 {
-    match rows.last() {
-        Some(row) => row.period,
-        None => 0,
-    }
+    rows.last().map_or(0, |row| row.period)
 }
 
-impl Section for Rows {
-    type Item = Row;
-
-    ghost reads = { λ _. read_row };
-
-    fn read<'a>(&self, before: &[Row], bytes: &'a [u8]) -> Result<(Row, &'a [u8]), Refusal> {
-        if bytes.len() < 4 {
-            return Err(Refusal::PlanEnds);
-        }
-        let row = row_in(bytes);
-        if is_bad(row) {
-            return Err(Refusal::BadRow);
-        }
-        if row.period < last_period(before) {
-            return Err(Refusal::PeriodFalls);
-        }
-        Ok((row, &bytes[4..]))
+// A row, after the rows before it: its period, then its budget.
+fn read_row<'a>(before: &[Row], bytes: &'a [u8]) -> Read<'a, Row>
+    ensures { Reads (and_rest (λ row. row)) result (read_row before.now bytes.now) }
+{
+    let [a, b, c, d, rest @ ..] = bytes else {
+        return Err(Refusal::PlanEnds);
+    };
+    let row = Row {
+        period: u16::from_be_bytes([*a, *b]),
+        budget: u16::from_be_bytes([*c, *d]),
+    };
+    if is_bad(row) {
+        return Err(Refusal::BadRow);
     }
+    if row.period < last_period(before) {
+        return Err(Refusal::PeriodFalls);
+    }
+    Ok((row, rest))
+}
+
+fn read_rows(bytes: &[u8]) -> Read<'_, ArrayVec<Row, MOST_TASKS>>
+    ensures { Reads (and_rest (λ v. v.items)) result (read_rows bytes.now) }
+{
+    read_short(bytes, read_row)
 }
 
 // How many tasks, objects and modes a use may name.
 #[derive(Drop)]
-struct Uses {
+struct Counts {
     tasks: usize,
     objects: usize,
     modes: u8,
 }
 
-impl Uses {
+impl Counts {
     fn has(&self, u: Use) -> bool
         ensures { result ≡ is_there self.now.tasks self.now.objects self.now.modes u }
     {
         (u.task as usize) < self.tasks && (u.object as usize) < self.objects && u.mode < self.modes
     }
-}
 
-fn is_same(u: Use, v: Use) -> bool
-    ensures { result ≡ same_use u v }
-{
-    u.task == v.task && u.object == v.object && u.mode == v.mode
-}
-
-fn contains(uses: &[Use], wanted: Use) -> bool
-    ensures { result ≡ stands_in wanted uses.now }
-{
-    for u in uses {
-        if is_same(*u, wanted) {
-            return true;
-        }
-    }
-    false
-}
-
-impl Section for Uses {
-    type Item = Use;
-
-    ghost reads = { λ s. read_use s.tasks s.objects s.modes };
-
-    fn read<'a>(&self, before: &[Use], bytes: &'a [u8]) -> Result<(Use, &'a [u8]), Refusal> {
+    // A use, after the uses before it: its task, its object, its mode.
+    fn read_use<'a>(&self, before: &[Use], bytes: &'a [u8]) -> Read<'a, Use>
+        ensures { Reads (and_rest (λ u. u)) result (read_use self.now.tasks self.now.objects self.now.modes before.now bytes.now) }
+    {
         let [task, object, mode, rest @ ..] = bytes else {
             return Err(Refusal::PlanEnds);
         };
@@ -156,146 +148,59 @@ impl Section for Uses {
         if !self.has(found) {
             return Err(Refusal::UseNotThere);
         }
-        if contains(before, found) {
+        if before.contains(&found) {
             return Err(Refusal::UseAgain);
         }
         Ok((found, rest))
     }
-}
 
-// So many elements of a section.
-fn read_some<'a, S: Section, const N: usize>(
-    section: &S,
-    count: usize,
-    blank: S::Item,
-    bytes: &'a [u8],
-) -> Result<(Table<S::Item, N>, &'a [u8]), Refusal>
-    requires { count ≤ N }
-    ensures { MatchResult result (λ p. read_some (S.Section.reads section.now) count [] bytes.now ≡ Ok (items p.0, p.1.now)) (λ why. read_some (S.Section.reads section.now) count [] bytes.now ≡ Err why) }
-{
-    let mut table = Table::empty(blank);
-    let mut rest = bytes;
-    for done in 0..count {
-        let (item, after) = match section.read(table.as_slice(), rest) {
-            Ok(found) => found,
-            Err(why) => return Err(why),
+    fn read_uses<'a>(&self, bytes: &'a [u8]) -> Read<'a, ArrayVec<Use, MOST_USES>>
+        ensures { Reads (and_rest (λ v. v.items)) result (read_uses self.now.tasks self.now.objects self.now.modes bytes.now) }
+    {
+        let [high, low, rest @ ..] = bytes else {
+            return Err(Refusal::PlanEnds);
         };
-        table.push(item);
-        rest = after;
-    }
-    Ok((table, rest))
-}
-
-// A section of 1 to N elements, after a count of one byte.
-fn read_short<'a, S: Section, const N: usize>(
-    section: &S,
-    blank: S::Item,
-    bytes: &'a [u8],
-) -> Result<(Table<S::Item, N>, &'a [u8]), Refusal>
-    ensures { MatchResult result (λ p. read_short (S.Section.reads section.now) N bytes.now ≡ Ok (items p.0, p.1.now)) (λ why. read_short (S.Section.reads section.now) N bytes.now ≡ Err why) }
-{
-    if bytes.len() < 1 {
-        return Err(Refusal::PlanEnds);
-    }
-    let count = bytes[0] as usize;
-    if count < 1 || N < count {
-        return Err(Refusal::CountOutOfLimits);
-    }
-    read_some(section, count, blank, &bytes[1..])
-}
-
-fn read_rows(bytes: &[u8]) -> Result<(Table<Row, MOST_TASKS>, &[u8]), Refusal>
-    ensures { MatchResult result (λ p. read_rows bytes.now ≡ Ok (items p.0, p.1.now)) (λ why. read_rows bytes.now ≡ Err why) }
-{
-    read_short(
-        &Rows,
-        Row {
-            period: 0,
-            budget: 0,
-        },
-        bytes,
-    )
-}
-
-fn read_uses(
-    tasks: usize,
-    objects: usize,
-    modes: u8,
-    bytes: &[u8],
-) -> Result<(Table<Use, MOST_USES>, &[u8]), Refusal>
-    ensures { MatchResult result (λ p. read_uses tasks objects modes bytes.now ≡ Ok (items p.0, p.1.now)) (λ why. read_uses tasks objects modes bytes.now ≡ Err why) }
-{
-    if bytes.len() < 2 {
-        return Err(Refusal::PlanEnds);
-    }
-    let count = u16::from_be_bytes([bytes[0], bytes[1]]) as usize;
-    if MOST_USES < count {
-        return Err(Refusal::CountOutOfLimits);
-    }
-    let section = Uses {
-        tasks,
-        objects,
-        modes,
-    };
-    read_some(
-        &section,
-        count,
-        Use {
-            task: 0,
-            object: 0,
-            mode: 0,
-        },
-        &bytes[2..],
-    )
-}
-
-// The rows and the uses, after the objects.
-fn read_others<'a, R: LockRule>(
-    rule: &R,
-    objects: Table<Object, MOST_OBJECTS>,
-    bytes: &'a [u8],
-) -> Result<(Plan, &'a [u8]), Refusal>
-    ensures { MatchResult result (λ p. read_others (R.meaning rule.now) (items objects) bytes.now ≡ Ok (contents p.0, p.1.now)) (λ why. read_others (R.meaning rule.now) (items objects) bytes.now ≡ Err why) }
-{
-    let (rows, rest) = match read_rows(bytes) {
-        Ok(found) => found,
-        Err(why) => return Err(why),
-    };
-    let tasks = rows.as_slice().len();
-    match read_uses(tasks, objects.as_slice().len(), rule.modes(), rest) {
-        Ok((uses, rest)) => Ok((
-            Plan {
-                objects,
-                rows,
-                uses,
-            },
-            rest,
-        )),
-        Err(why) => Err(why),
+        let count = u16::from_be_bytes([*high, *low]) as usize;
+        if MOST_USES < count {
+            return Err(Refusal::CountOutOfLimits);
+        }
+        read_some(count, rest, |before, rest| self.read_use(before, rest))
     }
 }
 
 impl Plan {
     // The plan at the front of the input, and the input after it.
+    #[tactic(auto, using(crate::proofs::Written::accepted_exactly))]
     pub fn read<'a, R: LockRule>(rule: &R, input: &'a [u8]) -> Result<(Plan, &'a [u8]), Refusal>
-        ensures answer { MatchResult result (λ p. read_plan (R.meaning rule.now) input.now ≡ Ok (contents p.0, p.1.now)) (λ why. read_plan (R.meaning rule.now) input.now ≡ Err why) }
+        ensures answer { Reads (and_rest contents) result (read_plan (R.meaning rule.now) input.now) }
         ensures law { AcceptedExactly (R.meaning rule.now) input.now }
     {
-        match read_short(&Objects, Object { start: [0; 4] }, input) {
-            Ok((objects, rest)) => read_others(rule, objects, rest),
-            Err(why) => Err(why),
-        }
+        let (objects, rest) = read_objects(input)?;
+        let (rows, rest) = read_rows(rest)?;
+        let there = Counts {
+            tasks: rows.len(),
+            objects: objects.len(),
+            modes: rule.modes(),
+        };
+        let (uses, rest) = there.read_uses(rest)?;
+        let plan = Plan {
+            objects,
+            rows,
+            uses,
+        };
+        Ok((plan, rest))
     }
 
     // The plan, where it is all of the input.
+    #[tactic(auto, using(crate::proofs::Written::accepted_whole))]
     pub fn read_whole<R: LockRule>(rule: &R, input: &[u8]) -> Result<Plan, Refusal>
-        ensures answer { MatchResult result (λ p. read_whole (R.meaning rule.now) input.now ≡ Ok (contents p)) (λ why. read_whole (R.meaning rule.now) input.now ≡ Err why) }
+        ensures answer { Reads contents result (read_whole (R.meaning rule.now) input.now) }
         ensures law { AcceptedWhole (R.meaning rule.now) input.now }
     {
-        match Plan::read(rule, input) {
-            Ok((plan, rest)) if rest.is_empty() => Ok(plan),
-            Ok(_) => Err(Refusal::BytesAfterPlan),
-            Err(why) => Err(why),
+        let (plan, rest) = Plan::read(rule, input)?;
+        if !rest.is_empty() {
+            return Err(Refusal::BytesAfterPlan);
         }
+        Ok(plan)
     }
 }

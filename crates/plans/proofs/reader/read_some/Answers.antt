@@ -1,23 +1,19 @@
--- A fault ends the section; else the table takes the element, and reading goes on after it.
-use Rattle.std.proofs.Common.{◌≡◌, ◌+◌, ◌<◌, [], ◌∷◌, ◌++◌, length, sym, ap, ◌∙◌, arith}
-use Rattle.std.proofs.lemmas.List.{length_push}
-use Rattle.std.proofs.lemmas.Bool.{lt-ltb}
-use Rattle.plans.specs.Tables.{items}
+-- A fault ends the section; else the element is pushed, and reading goes on after it.
+use Rattle.std.proofs.Common.{rules, sym, ◌∙◌, arith}
 use Rattle.plans.proofs.Sections.{section_more, section_fault}
 use Rattle.plans.proofs.reader.read_some.Goals as goal
 
-pub returns-in-Err : goal.returns-in-Err
-returns-in-Err g c =
-    let one = g.S.Section.reads c.args.section.now in
-    let fault = rw c.as_slice.ensures at c.in-Err.ensures in
-    sym c.loop-done.invariant.1 ∙ section_fault one c.args.count c.loop-done.done (items c.loop-done.table) c.loop-done.rest.now c.loop-done-test.true _ fault
+pub returns-in_err-item : goal.returns-in_err-item
+returns-in_err-item g c one reads =
+    let fault = rw c.deref.ensures.0 at (reads _ _ _ c.in_err-item.ensures) in
+    let ends = sym (c.loop-read.invariant.1 one reads) ∙ section_fault one c.args.count c.loop-read.items.items c.loop-read.rest.now (omega arith) _ fault in
+    search (rules, ends)
 
-pub loop-done-preserved : goal.loop-done-preserved
-loop-done-preserved g c =
-    let before = items c.loop-done.table in
-    let one = g.S.Section.reads c.args.section.now in
-    let free : length before < g.row.N = omega (arith, c.loop-done.invariant.0, c.requires) in
-    let pushed : items c.push.new.self ≡ before ++ (c.in-Ok.found.0 ∷ []) = rw (c.push.ensures.taken, lt-ltb _ _ free) at c.push.ensures.items in
-    let found = rw c.as_slice.ensures at c.in-Ok.ensures in
-    let next = section_more one c.args.count c.loop-done.done before c.loop-done.rest.now c.loop-done-test.true _ _ found in
-    (rw pushed (length_push before _ ∙ ap (λ n. n + 1) c.loop-done.invariant.0), rw pushed (sym next ∙ c.loop-done.invariant.1), c.push.ensures.room)
+pub loop-read-preserved : goal.loop-read-preserved
+loop-read-preserved g c = (
+  omega arith,
+  λ one reads.
+      let read = rw c.deref.ensures.0 at (reads _ _ _ c.in_ok-item.ensures) in
+      let more = section_more one c.args.count c.loop-read.items.items c.loop-read.rest.now (omega arith) _ _ _ read c.push.ensures.items in
+      sym more ∙ c.loop-read.invariant.1 one reads,
+)

@@ -1,7 +1,11 @@
 -- Value and reason are those of the definition, and so they keep the law.
-use Rattle.std.proofs.Common.{◌≡◌, true, ltb, length, ◌∙◌, ap₂}
+use Rattle.std.proofs.Common.{◌≡◌, true, ltb, length, ◌∙◌, rules, tests, sym}
 use Rattle.std.proofs.lemmas.Bool.{lt-ltb}
-use Rattle.plans.specs.Ceilings.{bound, bound_reason, first, costs}
+use Rattle.std.proofs.lemmas.Iterator.{YieldsList-from_slice}
+use Rattle.std.proofs.lemmas.Iterator.Consumers.{YieldsList-from_copied}
+use Rattle.std.proofs.lemmas.Iterator.Adapters.{option_map_id}
+use Rattle.std.proofs.lemmas.Iterator.Search.{find_from_yields_List}
+use Rattle.plans.specs.Ceilings.{bound, bound_reason, costs}
 use Rattle.plans.specs.Plans.{contents}
 use Rattle.plans.proofs.Reasons.{bound_law}
 use Rattle.plans.proofs.plan.Plan.bound.Goals as goal
@@ -10,7 +14,8 @@ pub returns : goal.returns
 returns g c =
     let m = g.R.LockRule.meaning c.args.rule.now in
     let plan = contents c.args.self.now in
-    let value : c.bound_over-value.result ≡ bound m plan c.args.task = rw c.uses.ensures at c.bound_over-value.ensures in
-    let reason : c.first_cost.result ≡ bound_reason m plan c.args.task = c.first_cost.ensures ∙ ap₂ (λ b uses. first (costs m plan c.args.task b) uses) value c.uses-2.ensures in
+    let value : c.bound-value.result ≡ bound m plan c.args.task = search rules in
+    let found = find_from_yields_List (costs m plan c.args.task c.bound-value.result) _ _ c.find-reason.result c.find-reason.ensures.ran (YieldsList-from_copied (YieldsList-from_slice plan.uses (search rules))) (λ x b q k. search (rules, tests)) in
+    let reason : c.find-reason.result ≡ bound_reason m plan c.args.task = rw value at (sym (option_map_id c.find-reason.result) ∙ found) in
     let there : ltb c.args.task (length plan.rows) ≡ true = rw c.rows.ensures at (lt-ltb _ _ c.if-task-rows.false) in
     record { answer = rw (value, reason, there); law = rw (value, reason) (bound_law m plan c.args.task) }
