@@ -1,2 +1,1 @@
-mod Stacks
 mod Images
