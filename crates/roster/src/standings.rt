@@ -8,48 +8,22 @@ ghost use Rattle.roster.specs.Records.{tasks_of};
 use crate::roster::{Roster, TASKS};
 use protocol::{Standing, Task};
 
-// How a task is kept when it has not come yet.
-const RESTING: Task = Task {
-    standing: Standing::Resting,
-    used: 0,
-    lost: 0,
-    lost_to: None,
-};
-
-fn standing_at(tasks: &[Task], k: usize) -> Standing
-    ensures { result ≡ standing_at tasks.now k }
-{
-    match tasks.get(k) {
-        Some(t) => t.standing,
-        None => Standing::Resting,
-    }
-}
-
 fn is_ready(standing: Standing) -> bool
     ensures { result ≡ is_ready standing }
 {
-    match standing {
-        Standing::Ready => true,
-        Standing::Resting | Standing::Waiting(_) => false,
-    }
+    standing == Standing::Ready
 }
 
 pub(crate) fn is_open(standing: Standing) -> bool
     ensures { result ≡ is_open standing }
 {
-    match standing {
-        Standing::Resting => false,
-        Standing::Ready | Standing::Waiting(_) => true,
-    }
+    standing != Standing::Resting
 }
 
-pub(crate) fn waits_for(standing: Standing, task: usize) -> bool
+pub(crate) fn waits_for(standing: Standing, task: u8) -> bool
     ensures { result ≡ waits_for task standing }
 {
-    match standing {
-        Standing::Waiting(h) => h as usize == task,
-        Standing::Resting | Standing::Ready => false,
-    }
+    standing == Standing::Waiting(task)
 }
 
 // The task that a number names: the one that it waits for, else itself.
@@ -57,22 +31,18 @@ fn named_by(standing: Standing, k: u8) -> u8
     ensures { result ≡ named_by standing k }
 {
     match standing {
-        Standing::Waiting(h) => h,
+        Standing::Waiting(holder) => holder,
         Standing::Resting | Standing::Ready => k,
     }
 }
 
 // The smallest of a task's number and the numbers of those that wait for it.
-fn place(tasks: &[Task], task: usize) -> usize
+fn place(tasks: &[Task], task: u8) -> usize
     ensures { result ≡ place tasks.now task }
 {
-    let mut least: usize = task;
-    for k in 0..tasks.len() {
-        if waits_for(tasks[k].standing, task) {
-            least = least.min(k);
-        }
-    }
-    least
+    let own = usize::from(task);
+    let first = tasks.iter().position(|t| waits_for(t.standing, task));
+    first.unwrap_or(own).min(own)
 }
 
 impl Roster {
@@ -80,7 +50,7 @@ impl Roster {
         ensures { tasks_of result ≡ replicate 16 resting }
     {
         Roster {
-            tasks: [RESTING; TASKS],
+            tasks: [Task::default(); TASKS],
         }
     }
 
@@ -88,9 +58,8 @@ impl Roster {
     fn is_place(&self, k: u8) -> bool
         ensures { result ≡ has_place (tasks_of self.now) k 0 (tasks_of self.now) }
     {
-        let tasks = &self.tasks[..];
-        let task = named_by(standing_at(tasks, k as usize), k) as usize;
-        is_ready(standing_at(tasks, task)) && place(tasks, task) == k as usize
+        let task = named_by(self.task(k).standing, k);
+        is_ready(self.task(task).standing) && place(&self.tasks, task) == usize::from(k)
     }
 
     // Bit k is set when some ready task has place k.
@@ -112,29 +81,21 @@ impl Roster {
         ensures { result ≡ running (tasks_of self.now) }
     {
         let place = self.served().trailing_zeros() as u8;
-        if place >= 16 {
-            return None;
-        }
-        Some(named_by(self.tasks[place as usize].standing, place))
+        self.tasks
+            .get(usize::from(place))
+            .map(|t| named_by(t.standing, place))
     }
 
     pub fn is_running(&self, task: u8) -> bool
         ensures { result ≡ names task (running (tasks_of self.now)) }
     {
-        match self.running() {
-            Some(j) => j == task,
-            None => false,
-        }
+        self.running() == Some(task)
     }
 
     // The record of the task; one that is not there rests.
     pub fn task(&self, k: u8) -> Task
         ensures { result ≡ task_at (tasks_of self.now) k }
     {
-        let tasks = &self.tasks[..];
-        match tasks.get(k as usize) {
-            Some(t) => *t,
-            None => RESTING,
-        }
+        self.tasks.get(usize::from(k)).copied().unwrap_or_default()
     }
 }

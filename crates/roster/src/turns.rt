@@ -25,7 +25,7 @@ pub enum Turn {
 }
 
 // One that waits for the task becomes ready.
-fn woken(t: Task, task: usize) -> Task
+fn woken(t: Task, task: u8) -> Task
     ensures { result ≡ wake task t }
 {
     if waits_for(t.standing, task) {
@@ -38,7 +38,7 @@ fn woken(t: Task, task: usize) -> Task
     }
 }
 
-fn wake_all(tasks: &mut [Task], task: usize)
+fn wake_all(tasks: &mut [Task], task: u8)
     ensures { tasks.new ≡ map (wake task) tasks.old }
 {
     for t in tasks.iter_mut() {
@@ -115,7 +115,7 @@ impl Roster {
     pub fn wake(&mut self, task: u8)
         ensures { tasks_of self.new ≡ map (wake task) (tasks_of self.old) }
     {
-        wake_all(&mut self.tasks, task as usize);
+        wake_all(&mut self.tasks, task);
     }
 
     // A tick of the running task, where its budget has one left; if not, nothing changes.
