@@ -8,24 +8,6 @@ ghost use Rattle.roster.specs.Records.{tasks_of};
 use crate::roster::{Roster, TASKS};
 use protocol::{Standing, Task};
 
-fn is_ready(standing: Standing) -> bool
-    ensures { result ≡ is_ready standing }
-{
-    standing == Standing::Ready
-}
-
-pub(crate) fn is_open(standing: Standing) -> bool
-    ensures { result ≡ is_open standing }
-{
-    standing != Standing::Resting
-}
-
-pub(crate) fn waits_for(standing: Standing, task: u8) -> bool
-    ensures { result ≡ waits_for task standing }
-{
-    standing == Standing::Waiting(task)
-}
-
 // The task that a number names: the one that it waits for, else itself.
 fn named_by(standing: Standing, k: u8) -> u8
     ensures { result ≡ named_by standing k }
@@ -41,7 +23,9 @@ fn place(tasks: &[Task], task: u8) -> usize
     ensures { result ≡ place tasks.now task }
 {
     let own = usize::from(task);
-    let first = tasks.iter().position(|t| waits_for(t.standing, task));
+    let first = tasks
+        .iter()
+        .position(|t| t.standing == Standing::Waiting(task));
     first.unwrap_or(own).min(own)
 }
 
@@ -59,7 +43,7 @@ impl Roster {
         ensures { result ≡ has_place (tasks_of self.now) k 0 (tasks_of self.now) }
     {
         let task = named_by(self.task(k).standing, k);
-        is_ready(self.task(task).standing) && place(&self.tasks, task) == usize::from(k)
+        self.task(task).standing == Standing::Ready && place(&self.tasks, task) == usize::from(k)
     }
 
     // Bit k is set when some ready task has place k.
@@ -77,6 +61,7 @@ impl Roster {
     }
 
     // The lowest bit of the served word is the running task's place, and the place names the task.
+    #[tactic(auto, using(crate::proofs::ServedTasks::running_at))]
     pub fn running(&self) -> Option<u8>
         ensures { result ≡ running (tasks_of self.now) }
     {

@@ -7,7 +7,6 @@ ghost use Rattle.roster.specs.Records.{tasks_of};
 ghost use Rattle.roster.specs.Turns.{allows, turned};
 
 use crate::roster::{Roster, TASKS};
-use crate::standings::{is_open, waits_for};
 use plans::Refusal;
 use protocol::{Standing, Task};
 
@@ -24,20 +23,6 @@ pub enum Turn {
     End,
 }
 
-// One that waits for the task becomes ready.
-fn woken(t: Task, task: u8) -> Task
-    ensures { result ≡ wake task t }
-{
-    if waits_for(t.standing, task) {
-        Task {
-            standing: Standing::Ready,
-            ..t
-        }
-    } else {
-        t
-    }
-}
-
 // What a tick of the running task does to the record of task k: an open task above the running one loses it.
 fn after_tick(running: u8, k: usize, t: Task) -> Task
     requires { k ≡ running → t.used < 65535 }
@@ -48,7 +33,7 @@ fn after_tick(running: u8, k: usize, t: Task) -> Task
             used: t.used + 1,
             ..t
         }
-    } else if k < running as usize && is_open(t.standing) {
+    } else if k < running as usize && t.standing != Standing::Resting {
         Task {
             lost: t.lost.saturating_add(1),
             lost_to: Some(running),
@@ -89,7 +74,9 @@ impl Roster {
         ensures { tasks_of self.new ≡ map (wake task) (tasks_of self.old) }
     {
         for t in self.tasks.iter_mut() {
-            *t = woken(*t, task);
+            if t.standing == Standing::Waiting(task) {
+                t.standing = Standing::Ready;
+            }
         }
     }
 
