@@ -1,15 +1,14 @@
 -- Places and the served word: one task more, and what a place names. Assumes nothing.
-use Rattle.std.proofs.Common.{◌≡◌, ℕ, suc, ◌+◌, ◌-◌, ◌*◌, ◌%◌, ◌^◌, ◌<◌, ◌≤◌, min, Bool, true, false, cond, ◌&&◌, eqb, List, [], ◌∷◌, length, ltb, Some, None, Option, sym, refl, ap, ◌∙◌, inl, inr, mod-eq_of_lt, pow-suc, add-one, arith}
-use lib.Bits.{bit_or, or_shifted_r}
+use Rattle.std.proofs.Common.{◌≡◌, ℕ, suc, ◌+◌, ◌*◌, ◌%◌, ◌^◌, ◌<◌, ◌≤◌, min, Bool, true, false, cond, ◌&&◌, eqb, List, [], ◌∷◌, length, ltb, Some, None, Option, filter, zero, sym, refl, ap, ◌∙◌, inl, inr, mod-eq_of_lt, pow-suc, add-one, arith}
 use lib.Count.{count_trailing_zeros, trailing_of_zero}
 use lib.Pow.{pow-lt}
-use Rattle.std.specs.List.{position, position_or_len}
+use Rattle.std.specs.List.{position, position_or_len, range_with_len, sum_by}
+use Rattle.std.proofs.lemmas.List.Sums.{sum_by-cons}
 use Rattle.std.specs.Option.{unwrap_or}
 use Rattle.std.proofs.lemmas.Bool.Decides.{nat_tests}
 use Rattle.std.proofs.lemmas.Bool.{cases_Bool, both_ways, and_parts, eqb-true, eq-eqb, lt-ltb, le-ltb}
 use Rattle.protocol.specs.Served.{named_by}
-use Rattle.protocol.specs.Tasks.{resting, standing_at, is_ready, waits_for, place, place_from, has_place, served_from, served, running}
-use Rattle.protocol.specs.declared.words.Standing.{Standing}
+use Rattle.protocol.specs.Tasks.{standing_at, is_ready, waits_for, place, place_from, has_place, served_from, served, running}
 use Rattle.protocol.specs.declared.words.Task.{Task}
 use Rattle.protocol.proofs.Moves.{ready_there}
 use Rattle.protocol.proofs.Places.{ready_is, place_most, runs}
@@ -47,25 +46,27 @@ place_of_named tasks whole k = elim (cases_Bool (has_place tasks k 0 tasks)) [
     not_both : {x y : Bool} → (x ≡ true → y ≡ true → ⊥) → (x && y) ≡ false
     not_both {x} {y} no_way = elim (cases_Bool (x && y)) [ inr e ↦ e | inl e ↦ absurd (no_way (and_parts x y e).0 (and_parts x y e).1) ]
 
--- the bits of the places from k on, one place further
-module _ (tasks : List Task) (k word total : ℕ) (left : k < 16) (small : word < 2 ^ k) (so_far : word + served_from tasks k (16 - k) ≡ total) where
-  next : 16 - k ≡ suc (16 - (k + 1))
-  next = omega arith
+-- the bits of the places from k on, n of them, as they are added up
+pub served_sum : (tasks : List Task) (k n : ℕ) → k + n ≤ 16 → sum_by (λ p. 1 * 2 ^ p % 65536) (filter (λ p. has_place tasks p 0 tasks) (range_with_len k n)) ≡ served_from tasks k n
+served_sum tasks k zero l = refl
+served_sum tasks k (suc n) l =
+    let fits : 1 * 2 ^ k % 65536 ≡ 2 ^ k = mod-eq_of_lt (omega (arith, pow-lt {i = k} {j = 16} (omega arith))) ∙ omega arith in
+    let rest = rw add-one at (served_sum tasks (k + 1) n (omega arith)) in
+    elim (cases_Bool (has_place tasks k 0 tasks)) [
+      | inl had ↦ rw (had, add-one) (omega (arith, fits, rest, sum_by-cons (λ p. 1 * 2 ^ p % 65536) k (filter (λ p. has_place tasks p 0 tasks) (range_with_len (suc k) n))))
+      | inr none ↦ rw (none, add-one) (omega (arith, rest))
+    ]
 
-  step : word + (cond (has_place tasks k 0 tasks) (2 ^ k) 0 + served_from tasks (k + 1) (16 - (k + 1))) ≡ total
-  step = ap (λ n. word + (cond (has_place tasks k 0 tasks) (2 ^ k) 0 + served_from tasks n (16 - (k + 1)))) (add-one k) ∙ (rw next at so_far)
-
-  pub bit_more : has_place tasks k 0 tasks ≡ true → (let joined = bit_or word (1 * 2 ^ k % 65536) in (joined < 2 ^ (k + 1)) × (joined + served_from tasks (k + 1) (16 - (k + 1)) ≡ total))
-  bit_more had =
-      let fits : 1 * 2 ^ k % 65536 ≡ 1 * 2 ^ k = mod-eq_of_lt (omega (arith, pow-lt left)) in
-      let sum : bit_or word (1 * 2 ^ k % 65536) ≡ word + 2 ^ k = ap (bit_or word) fits ∙ (or_shifted_r 1 k word small ∙ omega arith) in
-      let here : word + (2 ^ k + served_from tasks (k + 1) (16 - (k + 1))) ≡ total = rw had at step in
-      (omega (arith, sum, pow-suc 2 k, ap (λ n. 2 ^ n) (add-one k)), omega (arith, sum, here))
-
-  pub bit_skip : has_place tasks k 0 tasks ≡ false → (word < 2 ^ (k + 1)) × (word + served_from tasks (k + 1) (16 - (k + 1)) ≡ total)
-  bit_skip none =
-      let here : word + (0 + served_from tasks (k + 1) (16 - (k + 1))) ≡ total = rw none at step in
-      (omega (arith, pow-suc 2 k, ap (λ n. 2 ^ n) (add-one k)), omega (arith, here))
+-- they fit n bits
+pub served_fits : (tasks : List Task) (k n : ℕ) → served_from tasks k n + 2 ^ k ≤ 2 ^ (k + n)
+served_fits tasks k zero = let same : k + 0 ≡ k = omega arith in rw same (omega arith)
+served_fits tasks k (suc n) =
+    let rest = served_fits tasks (suc k) n in
+    let same : suc k + n ≡ k + suc n = omega arith in
+    elim (cases_Bool (has_place tasks k 0 tasks)) [
+      | inl had ↦ rw had (omega (arith, pow-suc 2 k, rw same at rest))
+      | inr none ↦ rw none (omega (arith, pow-suc 2 k, rw same at rest))
+    ]
 
 -- the lowest bit of the served word tells who runs
 pub running_at : (tasks : List Task) → length tasks ≡ 16 → (let p = count_trailing_zeros 16 (served tasks) in running tasks ≡ cond (ltb p 16) (Some (named_by (standing_at tasks p) p)) None)

@@ -50,14 +50,11 @@ impl Roster {
     pub fn served(&self) -> u16
         ensures { result ≡ served (tasks_of self.now) }
     {
-        let mut word: u16 = 0;
         // A bit for each of the 16 tasks.
-        for k in 0..16 {
-            if self.is_place(k) {
-                word |= 1 << k;
-            }
-        }
-        word
+        (0..16)
+            .filter(|k| self.is_place(*k))
+            .map(|k| 1u16 << k)
+            .sum()
     }
 
     // The lowest bit of the served word is the running task's place, and the place names the task.
