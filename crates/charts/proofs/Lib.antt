@@ -1,2 +1,1 @@
 mod Users
-mod StartValues

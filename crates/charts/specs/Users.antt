@@ -6,10 +6,6 @@ use Rattle.plans.specs.declared.parts.Object.{Object}
 use Rattle.plans.specs.declared.parts.Use.{Use}
 use Rattle.protocol.specs.declared.words.LockRecord.{LockRecord}
 
--- what stands for an object that is not there
-abbrev pub no_object : Object
-no_object = record { start = [] }
-
 -- the use is of this object, in this mode
 abbrev pub is_of : ℕ → ℕ → Use → Bool
 is_of object mode u = u.object == object && u.mode == mode

@@ -1,7 +1,7 @@
 // A plan that was accepted, with the highest user of each object in each mode at hand.
-ghost use Rattle.std.specs.Prelude.{◌≡◌, ℕ, ◌/◌, ◌%◌, ◌<◌, ◌≤◌, length, slice_index, slice_index_or};
+ghost use Rattle.std.specs.Prelude.{◌≡◌, ℕ, ◌/◌, ◌%◌, ◌<◌, ◌≤◌, length, slice_index};
 ghost use Rattle.plans.specs.Plans.{contents};
-ghost use Rattle.charts.specs.Users.{no_object, highest_user};
+ghost use Rattle.charts.specs.Users.{highest_user};
 
 use plans::Plan;
 
@@ -18,8 +18,6 @@ pub struct Chart {
     // Every object has its 4 of the 128 cells.
     ghost few_objects: { length (contents plan).objects ≤ 32 },
     ghost each: { (at : ℕ) → at < 256 → slice_index users at ≡ highest_user (contents plan).uses (at / 8) (at % 8) },
-    // Every object has a start value for each of its cells.
-    ghost four: { (object : ℕ) → object < length (contents plan).objects → length (slice_index_or (contents plan).objects object no_object).start ≡ 4 },
     // No use is of an object past the last.
     ghost past: { (object mode : ℕ) → 32 ≤ object → highest_user (contents plan).uses object mode ≡ 16 },
 }

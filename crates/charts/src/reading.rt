@@ -3,7 +3,7 @@ ghost use Rattle.std.specs.Prelude.{◌≡◌, ℕ, ◌<◌, ◌≤◌, length, 
 ghost use Rattle.plans.specs.Limits.{Limits};
 ghost use Rattle.plans.specs.Plans.{contents};
 ghost use Rattle.plans.specs.Reading.{read_plan, read_whole};
-ghost use Rattle.charts.specs.Users.{no_object, highest_user};
+ghost use Rattle.charts.specs.Users.{highest_user};
 
 use crate::chart::Chart;
 use crate::lookups::users_of;
@@ -15,7 +15,6 @@ impl Chart {
     fn of(plan: Plan) -> Chart
         requires tasks { length (contents plan).rows ≤ 16 }
         requires objects { length (contents plan).objects ≤ 32 }
-        requires four { (object : ℕ) → object < length (contents plan).objects → length (slice_index_or (contents plan).objects object no_object).start ≡ 4 }
         requires past { (object mode : ℕ) → 32 ≤ object → highest_user (contents plan).uses object mode ≡ 16 }
         ensures { result.plan ≡ plan }
     {

@@ -3,7 +3,6 @@ use Rattle.std.proofs.Common.{refl, arith}
 use Rattle.std.proofs.ByRecursion.{All-get_or}
 use Rattle.plans.specs.Limits.{ObjectLimits, Limits}
 use Rattle.plans.specs.Plans.{contents}
-use Rattle.charts.specs.Users.{no_object}
 use Rattle.charts.proofs.Users.{user_past}
 use Rattle.charts.proofs.planned.Planned.read.Goals as goal
 
@@ -16,7 +15,6 @@ of-chart-requires g c =
     record {
       tasks = limits.few_tasks;
       objects = limits.few_objects;
-      four = λ object l. (All-get_or ObjectLimits plan.objects object no_object l limits.objects_keep).four;
       past = λ object mode l. user_past m plan object mode (omega (arith, limits.few_objects)) plan.uses limits.uses_keep;
     }
 
