@@ -2,7 +2,6 @@
 use Rattle.std.specs.Prelude.{ℕ, min, Bool, cond, not, ◌&&◌, List, [], ◌∷◌, ◌==◌, ◌<◌, nat_le, slice_index_or}
 use Rattle.rules.specs.Meaning.{Meaning}
 use Rattle.plans.specs.Ceilings.{ceiling}
-use Rattle.plans.specs.declared.parts.Object.{Object}
 use Rattle.plans.specs.declared.parts.Use.{Use}
 use Rattle.protocol.specs.declared.words.LockRecord.{LockRecord}
 
