@@ -1,5 +1,5 @@
 // The text of a line. docs/TAPE.md has the format.
-ghost use Rattle.std.specs.Prelude.{◌≡◌, ◌≤◌, [], length};
+ghost use Rattle.std.specs.Prelude.{◌≡◌, ◌≤◌, [], ◌++◌, length};
 ghost use Rattle.sheets.specs.Sheets.{Adds, task_text, account_text, answer_text, sheet_line};
 
 use arrayvec::ArrayString;
@@ -31,11 +31,12 @@ impl Line {
         ensures line { result ≡ sheet_line answer running }
         ensures short { length result ≤ 32 }
     {
-        Line::empty()
-            .answer(answer)
-            .text(" run ")
-            .task(running)
-            .text("\n")
+        let mut line = Line::empty();
+        line.answer(answer);
+        line.text(" run ");
+        line.task(running);
+        line.text("\n");
+        line
     }
 
     pub(crate) fn as_bytes(&self) -> &[u8]
@@ -52,23 +53,22 @@ impl Line {
         }
     }
 
-    fn text(mut self, text: &str) -> Line
-        ensures { Adds self text.now result }
+    fn text(&mut self, text: &str)
+        ensures { Adds self.old text.now self.new }
     {
         let _fits = self.text.try_push_str(text);
-        self
     }
 
-    fn number<I: Integer>(self, number: I) -> Line
-        ensures { Adds self (I.text number) result }
+    fn number<I: Integer>(&mut self, number: I)
+        ensures { Adds self.old (I.text number) self.new }
     {
         let mut digits = Buffer::new();
-        self.text(digits.format(number))
+        self.text(digits.format(number));
     }
 
     // The task's number, or a dash where there is none.
-    fn task(self, task: Option<u8>) -> Line
-        ensures { Adds self (task_text task) result }
+    fn task(&mut self, task: Option<u8>)
+        ensures { Adds self.old (task_text task) self.new }
     {
         match task {
             Some(task) => self.number(task),
@@ -76,30 +76,44 @@ impl Line {
         }
     }
 
-    fn account(self, account: Account) -> Line
-        ensures { Adds self (account_text account) result }
+    fn account(&mut self, account: Account)
+        ensures { Adds self.old (account_text account) self.new }
     {
-        self.number(account.used)
-            .text(" ")
-            .number(account.lost)
-            .text(" ")
-            .task(account.lost_to)
+        self.number(account.used);
+        self.text(" ");
+        self.number(account.lost);
+        self.text(" ");
+        self.task(account.lost_to);
     }
 
-    fn answer(self, answer: Answer) -> Line
-        ensures { Adds self (answer_text answer) result }
+    // A name, and the number that it is said of.
+    fn named<I: Integer>(&mut self, name: &str, number: I)
+        ensures { Adds self.old (name.now ++ I.text number) self.new }
+    {
+        self.text(name);
+        self.number(number);
+    }
+
+    fn answer(&mut self, answer: Answer)
+        ensures { Adds self.old (answer_text answer) self.new }
     {
         match answer {
             Answer::Open => self.text("open"),
             Answer::Granted => self.text("granted"),
-            Answer::Wait(task) => self.text("wait ").number(task),
-            Answer::Value(value) => self.text("value ").number(value),
+            Answer::Wait(task) => self.named("wait ", task),
+            Answer::Value(value) => self.named("value ", value),
             Answer::Written => self.text("written"),
-            Answer::Closed(account) => self.text("closed ").account(account),
-            Answer::Dropped(account) => self.text("dropped ").account(account),
-            Answer::Ran(task) => self.text("ran ").number(task),
+            Answer::Closed(account) => {
+                self.text("closed ");
+                self.account(account);
+            }
+            Answer::Dropped(account) => {
+                self.text("dropped ");
+                self.account(account);
+            }
+            Answer::Ran(task) => self.named("ran ", task),
             Answer::Idle => self.text("idle"),
-            Answer::Refused(why) => self.text("refused ").number(why.number()),
+            Answer::Refused(why) => self.named("refused ", why.number()),
         }
     }
 }

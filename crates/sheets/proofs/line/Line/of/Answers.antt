@@ -10,5 +10,5 @@ returns c =
     let within : Within c.args.answer = search rules in
     let task : TaskWithin c.args.running = search rules in
     let least = short c.args.answer c.args.running within task in
-    let line : c.text-2.result ≡ sheet_line c.args.answer c.args.running = (adds_then (rw c.empty.ensures at c.answer.ensures) (adds_then c.text.ensures (adds_then c.task.ensures c.text-2.ensures))).says (omega (arith, least)) in
+    let line : c.text-2.new.self ≡ sheet_line c.args.answer c.args.running = (adds_then (rw c.empty-line.ensures at c.answer.ensures) (adds_then c.text.ensures (adds_then c.task.ensures c.text-2.ensures))).says (omega (arith, least)) in
     record { line = line; short = rw line least }
