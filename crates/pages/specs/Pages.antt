@@ -4,7 +4,7 @@ use Rattle.std.specs.List.{range_with_len, flat_map}
 use Rattle.pages.specs.declared.page.Page.{Page}
 
 abbrev pub text_of : Page → List ℕ
-text_of page = take page.len page.bytes
+text_of page = page.bytes.items
 
 -- the text stands behind what was on the page; what is past the page's end is left out
 pub record Added (before : Page) (text : List ℕ) (after : Page) : Type 0 where

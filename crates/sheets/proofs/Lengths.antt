@@ -1,15 +1,13 @@
 -- No line of a sheet is longer than 32 bytes. Assumes nothing.
-use Rattle.std.proofs.Common.{ℕ, ◌^◌, ◌<◌, ◌≤◌, length, ℤ, Some, None, Option, arith, lit<, w32, SFits}
+use Rattle.std.proofs.Common.{ℕ, length-append, ◌^◌, ◌<◌, ◌≤◌, length, ℤ, Some, None, Option, arith, w32, SFits}
 use Rattle.std.specs.Fmt.{signed_decimal}
 use Rattle.std.proofs.lemmas.Fmt.{decimal_is_IsNumeral, first_decimal, length-decimal-le, length_signed_le}
 use Rattle.plans.specs.Refusals.{number_of}
 use Rattle.plans.specs.declared.refusal.Refusal.{Refusal}
-use Rattle.plans.specs.declared.refusal.Refusal.TheVariants.{PlanEnds, CountOutOfLimits, BadRow, PeriodFalls, UseNotThere, UseAgain, BytesAfterPlan, FewCells, NumberNotThere, AlreadyOpen, NotRunning, NoSuchUse, AlreadyHeld, LocksFull, NotCovered, JournalFull, BudgetSpent, UnreadableLine, ShortSheet}
 use Rattle.protocol.specs.declared.words.Account.{Account}
 use Rattle.protocol.specs.declared.words.Answer.{Answer}
 use Rattle.protocol.specs.declared.words.Answer.TheVariants.{Open, Granted, Wait, Value, Written, Closed, Dropped, Ran, Idle, Refused}
 use Rattle.sheets.specs.Sheets.{task_text, account_text, answer_text, sheet_line, TaskWithin, AccountWithin, Within, SheetLaws}
-use Rattle.sheets.proofs.Written.{account_length, line_size}
 
 task_short : (task : Option ℕ) → TaskWithin task → length (task_text task) ≤ 3
 task_short None within = omega arith
@@ -17,32 +15,14 @@ task_short (Some task) within = length-decimal-le 3 task (omega arith) (omega ar
 
 account_short : (a : Account) → AccountWithin a → length (account_text a) ≤ 15
 account_short a within =
-    omega (arith, account_length a, length-decimal-le 5 a.used (omega arith) (omega (arith, within.0)) (omega (arith, within.0)), length-decimal-le 5 a.lost (omega arith) (omega (arith, within.1)) (omega (arith, within.1)), task_short a.lost_to within.2)
+    simp length-append (omega (arith, length-decimal-le 5 a.used (omega arith) (omega (arith, within.0)) (omega (arith, within.0)), length-decimal-le 5 a.lost (omega arith) (omega (arith, within.1)) (omega (arith, within.1)), task_short a.lost_to within.2))
 
 pub value_short : (z : ℤ) → SFits w32 z → length (signed_decimal z) ≤ 11
 value_short z fits = length_signed_le 10 z (omega (arith, fits.sfits)) (omega (arith, fits.sfits))
 
 -- refusals are numbered to 19
 pub few : (why : Refusal) → number_of why < 10 ^ 2
-few PlanEnds = lit< tt
-few CountOutOfLimits = lit< tt
-few BadRow = lit< tt
-few PeriodFalls = lit< tt
-few UseNotThere = lit< tt
-few UseAgain = lit< tt
-few BytesAfterPlan = lit< tt
-few FewCells = lit< tt
-few NumberNotThere = lit< tt
-few AlreadyOpen = lit< tt
-few NotRunning = lit< tt
-few NoSuchUse = lit< tt
-few AlreadyHeld = lit< tt
-few LocksFull = lit< tt
-few NotCovered = lit< tt
-few JournalFull = lit< tt
-few BudgetSpent = lit< tt
-few UnreadableLine = lit< tt
-few ShortSheet = lit< tt
+few why = grind arith
 
 answer_short : (answer : Answer) → Within answer → length (answer_text answer) ≤ 23
 answer_short Open within = omega arith
@@ -57,7 +37,7 @@ answer_short Idle within = omega arith
 answer_short (Refused why) within = omega (arith, length-decimal-le 2 (number_of why) (omega arith) (few why) (omega (arith, few why)))
 
 pub short : (answer : Answer) (running : Option ℕ) → Within answer → TaskWithin running → length (sheet_line answer running) ≤ 32
-short answer running within task = omega (arith, line_size answer running, answer_short answer within, task_short running task)
+short answer running within task = simp length-append (omega (arith, answer_short answer within, task_short running task))
 
 pub sheet_laws : SheetLaws
 sheet_laws = record { short = short; back = decimal_is_IsNumeral; leading = first_decimal }

@@ -1,3 +1,3 @@
-pub mod Written
+pub mod Adding
 pub mod Lengths
 pub mod Examples

@@ -18,6 +18,10 @@ pub record Put (before : List ℕ) (at : ℕ) (text after : List ℕ) (end : ℕ
   pub bytes : after ≡ written before at text
   pub behind : end ≡ at + length text
 
+-- a line with a text more, where the line has room for it
+pub record Adds (line text after : List ℕ) : Type 0 where
+  pub says : length line + length text ≤ 32 → after ≡ line ++ text
+
 -- a task, or a dash where there is none
 abbrev pub task_text : Option ℕ → List ℕ
 task_text None = codes "-"

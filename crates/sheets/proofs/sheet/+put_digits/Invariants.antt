@@ -1,5 +1,0 @@
--- A digit less each time.
-use Rattle.sheets.proofs.sheet.+put_digits.Given as goal
-
-abbrev pub decreases-put_digits : goal.decreases-put_digits
-decreases-put_digits l = l.magnitude
