@@ -1,10 +1,10 @@
 -- The readers of values, objects, rows and uses accept exactly what is written. Assumes nothing.
-use Rattle.std.proofs.Common.{◌≡◌, ℕ, ◌+◌, ◌*◌, ◌/◌, ◌%◌, ◌<◌, ◌≤◌, false, not, ltb, List, [], ◌∷◌, ◌++◌, length, get_or, drop, Ok, Decides, sym, refl, ap, ◌∙◌, ap₂, arith, w32, SFits, to_z, of_z}
+use Rattle.std.proofs.Common.{◌≡◌, ℕ, ◌+◌, ◌*◌, ◌/◌, ◌%◌, ◌<◌, ◌≤◌, true, false, not, ltb, List, [], ◌∷◌, ◌++◌, length, get_or, drop, Ok, Decides, sym, refl, ap, ◌∙◌, ap₂, arith, w32, SFits, to_z, of_z}
 use borrow.Author.Gap.{read_sfits}
 use Rattle.std.specs.List.{ContainsAt}
 use Rattle.std.proofs.lemmas.List.{drop_more}
 use Rattle.std.proofs.lemmas.Int.{to_z-of_z, of_z-to_z}
-use Rattle.std.proofs.lemmas.Bool.{ltb-false, not-true, not-false}
+use Rattle.std.proofs.lemmas.Bool.{le-ltb, ltb-false, not-true, not-false}
 use Rattle.std.proofs.lemmas.Bool.Decides.{nat_tests, Decides-by_or, Decides-not, not_from_Decides}
 use Rattle.rules.specs.Meaning.{Meaning}
 use Rattle.plans.specs.Contents.{Contents}
@@ -14,8 +14,17 @@ use Rattle.plans.specs.Written.{two_bytes, four_bytes, object_bytes, row_bytes, 
 use Rattle.plans.specs.declared.parts.Row.{Row}
 use Rattle.plans.specs.declared.parts.Use.{Use}
 use Rattle.plans.specs.declared.refusal.Refusal.TheVariants.{PlanEnds, BadRow, PeriodFalls, UseNotThere, UseAgain}
-use Rattle.plans.proofs.Accepted.{value_read, row_read, use_read}
 use Rattle.plans.proofs.Chains.{Exact, passed, same_read, by_steps, and_then_assoc, free_chain, whole_sound, some_complete}
+
+-- what is read where no check fails
+value_read : (bytes : List ℕ) → 4 ≤ length bytes → read_value bytes ≡ Ok (value_in bytes, drop 4 bytes)
+value_read bytes long = rw (le-ltb (length bytes) 4 long)
+
+row_read : (before : List Row) (bytes : List ℕ) (row : Row) → 4 ≤ length bytes → row ≡ row_in bytes → is_bad row ≡ false → (last_row before).period ≤ row.period → read_row before bytes ≡ Ok (row, drop 4 bytes)
+row_read before bytes row long e good rises = rw (e, le-ltb (length bytes) 4 long, rw e at good, le-ltb _ _ (rw e at rises))
+
+use_read : (tasks objects modes : ℕ) (before : List Use) (bytes : List ℕ) → 3 ≤ length bytes → is_there tasks objects modes (use_in bytes) ≡ true → stands_in (use_in bytes) before ≡ false → read_use tasks objects modes before bytes ≡ Ok (use_in bytes, drop 3 bytes)
+use_read tasks objects modes before bytes long there once = rw (le-ltb (length bytes) 3 long, there, once)
 
 -- the first numbers of a list that is long enough
 pub front_two : (bytes : List ℕ) → 2 ≤ length bytes → bytes ≡ get_or bytes 0 0 ∷ (get_or bytes 1 0 ∷ drop 2 bytes)

@@ -1,5 +1,3 @@
-pub mod Accepted
-pub mod Sections
 pub mod Chains
 pub mod Elements
 pub mod Written

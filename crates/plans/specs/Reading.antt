@@ -1,6 +1,7 @@
 -- Reading a plan from bytes: what is read and the bytes after it, or the first fault. docs/PLAN.md has the format. Assumes nothing.
-use Rattle.std.specs.Prelude.{ℕ, zero, suc, ◌+◌, ◌-◌, ◌*◌, Bool, false, cond, not, ◌&&◌, ◌||◌, List, [], ◌∷◌, ◌++◌, length, drop, ℤ, Ok, Err, Result, ◌==◌, nat_lt, slice_index, slice_index_or}
+use Rattle.std.specs.Prelude.{ℕ, zero, suc, ◌+◌, ◌-◌, ◌*◌, Bool, cond, not, ◌&&◌, ◌||◌, List, [], ◌∷◌, ◌++◌, length, drop, ℤ, Ok, Err, Result, ◌==◌, nat_lt, slice_index, slice_index_or}
 use Rattle.std.specs.Int.{w32}
+use Rattle.std.specs.List.{list_any}
 use Rattle.std.proofs.Common.{to_z}
 use Rattle.rules.specs.Meaning.{Meaning}
 use Rattle.plans.specs.Contents.{Contents, no_row}
@@ -59,8 +60,7 @@ abbrev pub same_use : Use → Use → Bool
 same_use u v = u.task == v.task && (u.object == v.object && u.mode == v.mode)
 
 abbrev pub stands_in : Use → List Use → Bool
-stands_in u [] = false
-stands_in u (v ∷ uses) = same_use v u || stands_in u uses
+stands_in u uses = list_any (λ v. same_use v u) uses
 
 -- the task, the object and the mode of a use are there: so many tasks, objects and modes
 abbrev pub is_there : ℕ → ℕ → ℕ → Use → Bool

@@ -9,11 +9,11 @@ use crate::plan::Plan;
 use crate::refusal::Refusal;
 use rules::LockRule;
 
-// Past every task, of which there are at most 16.
-pub const NO_TASK: u8 = 16;
+// Past every task, of which there are at most 16. A number and no Option: a task is compared with it as with any ceiling.
+const NO_TASK: u8 = 16;
 
 // The highest task that a lock can keep waiting, and the use by which it comes to that.
-#[derive(Clone, Copy)]
+#[derive(Clone, Copy, Debug, PartialEq, Eq)]
 pub struct Ceiling {
     // 16, past every task, where no use clashes with the lock.
     pub value: u8,
@@ -21,7 +21,8 @@ pub struct Ceiling {
 }
 
 // The most ticks that lower tasks can run in an instance, and the use by which one of them holds the task up.
-#[derive(Clone, Copy)]
+// Not one generic type with Ceiling: the value there is a task, and here a length of time.
+#[derive(Clone, Copy, Debug, PartialEq, Eq)]
 pub struct Bound {
     pub value: u16,
     pub reason: Option<Use>,
