@@ -68,6 +68,6 @@ impl Chart {
         (0..MODES as u8)
             .filter(|wanted| rule.clashes(held, *wanted))
             .map(|wanted| self.user(object, wanted))
-            .fold(NO_TASK, |least, task| least.min(task))
+            .fold(NO_TASK, u8::min)
     }
 }
