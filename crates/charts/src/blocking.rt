@@ -9,6 +9,7 @@ use protocol::LockRecord;
 use rules::LockRule;
 
 // The task of the newest lock that blocks: another task has it, and its ceiling is at most the caller's own number.
+// The rule and the chart come apart, as a manager holds them: it is defined by the two, and has no `Planned` to lend.
 pub fn newest_blocker<R: LockRule>(
     rule: &R,
     chart: &Chart,

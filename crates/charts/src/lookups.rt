@@ -12,6 +12,7 @@ use rules::LockRule;
 // Past every task, of which there are at most 16.
 const NO_TASK: u8 = 16;
 
+// The table of who may lock what, from one walk of the uses.
 pub(crate) fn users_of(uses: &[Use]) -> [[u8; MODES]; OBJECTS]
     requires { All HasEntry uses.now }
     ensures { (object mode : ℕ) → entry result object mode ≡ highest_user uses.now object mode }
@@ -49,6 +50,7 @@ impl Chart {
         self.plan.uses().contains(&Use { task, object, mode })
     }
 
+    // The highest task that may lock the object in the mode, also where the table has no place for them: then nobody may.
     fn user(&self, object: u8, mode: u8) -> u8
         ensures { result ≡ highest_user (contents self.now.plan).uses object mode }
     {
@@ -66,6 +68,6 @@ impl Chart {
         (0..MODES as u8)
             .filter(|wanted| rule.clashes(held, *wanted))
             .map(|wanted| self.user(object, wanted))
-            .fold(NO_TASK, |least, task| least.min(task))
+            .fold(NO_TASK, u8::min)
     }
 }

@@ -11,6 +11,7 @@ use plans::{Plan, Refusal};
 use rules::LockRule;
 
 impl<R: LockRule + Drop> Planned<R> {
+    // The limits are a clause and no ghost field: they go by recursion, so the type would need a proof that all proofs of them are equal.
     fn of(rule: R, plan: Plan) -> Planned<R>
         requires { Limits (R.meaning rule) (contents plan) }
         ensures rule { result.rule ≡ rule }
