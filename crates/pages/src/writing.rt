@@ -32,6 +32,7 @@ impl Page {
     }
 
     // The number, and blanks up to the width, which is no more than the eleven of the longest number.
+    // Not by `write!` with a width: tried, and the page is not proved where it answers `Err`, of which its contract says nothing.
     fn add_padded(&mut self, width: usize, number: i32)
         ensures { Added self.old (padded (min width 11) (signed_decimal number)) self.new }
     {
