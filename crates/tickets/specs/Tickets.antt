@@ -1,15 +1,14 @@
 -- Results of calls with a ticket as answers, and what becomes of the ticket. Assumes nothing.
-use Rattle.std.specs.Prelude.{◌≡◌, ℕ, false, IfOk, IfErr, Ok, Err, Result}
+use Rattle.std.specs.Prelude.{◌≡◌, ℕ, IfOk, IfErr, Ok, Err, Result}
 use Rattle.plans.specs.declared.refusal.Refusal.{Refusal}
 use Rattle.protocol.specs.declared.words.Account.{Account}
 use Rattle.protocol.specs.declared.words.Answer.{Answer}
 use Rattle.protocol.specs.declared.words.Answer.TheVariants.{Open, Closed, Dropped, Refused}
 use Rattle.tickets.specs.declared.ticket.Ticket.{Ticket}
 
--- a ticket of this task, which is still to be spent
-pub record TicketOf (task : ℕ) (t : Ticket) : Type 0 where
-  pub own : t.task ≡ task
-  pub unspent : t.spent ≡ false
+-- a ticket of this task; that it is there says that it is still to be spent, since nothing but a spending call takes it
+abbrev pub TicketOf : ℕ → Ticket → Type 0
+TicketOf task t = t.task ≡ task
 
 abbrev pub arrive_answer : Result Ticket Refusal → Answer
 arrive_answer (Ok ticket) = Open

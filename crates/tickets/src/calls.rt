@@ -1,5 +1,5 @@
 // Calls with a ticket: each is the numbered call of the ticket's task.
-ghost use Rattle.std.specs.Prelude.{◌≡◌, List, ℤ};
+ghost use Rattle.std.specs.Prelude.{◌≡◌, List, ℤ, Ok, Err, MatchResult};
 ghost use Rattle.protocol.specs.Machine.{arrive, lock, read, write, close, drop_task};
 ghost use Rattle.manager.specs.View.{setup_of, view, lock_answer, read_answer, write_answer};
 ghost use Rattle.tickets.specs.Tickets.{arrive_answer, Given, close_answer, drop_answer, GivenBack};
@@ -18,10 +18,8 @@ impl Ticket {
         ensures setup { setup_of R.meaning manager.new ≡ setup_of R.meaning manager.old }
         ensures ticket { Given task result }
     {
-        match manager.arrive(task) {
-            Ok(()) => Ok(Ticket { task, spent: false }),
-            Err(refusal) => Err(refusal),
-        }
+        manager.arrive(task)?;
+        Ok(Ticket { task })
     }
 
     // The task that it is a ticket of.
@@ -84,13 +82,8 @@ impl Ticket {
         ensures setup { setup_of R.meaning manager.new ≡ setup_of R.meaning manager.old }
         ensures ticket { GivenBack self result }
     {
-        match manager.close(self.task) {
-            Ok(account) => {
-                self.spend();
-                Ok(account)
-            }
-            Err(refusal) => Err((refusal, self)),
-        }
+        let closed = manager.close(self.task);
+        self.end_by(closed)
     }
 
     // The numbered drop of its task; a refused one gives the ticket back.
@@ -104,25 +97,29 @@ impl Ticket {
         ensures setup { setup_of R.meaning manager.new ≡ setup_of R.meaning manager.old }
         ensures ticket { GivenBack self result }
     {
-        match manager.drop_task(cells, self.task) {
-            Ok(account) => {
-                self.spend();
-                Ok(account)
-            }
-            Err(refusal) => Err((refusal, self)),
-        }
+        let dropped = manager.drop_task(cells, self.task);
+        self.end_by(dropped)
     }
 
     // Always accepted. The task stays as it is, for numbered calls, and the manager is not even asked.
     pub fn surrender(self) -> u8
         ensures { result ≡ self.task }
     {
-        let task = self.task;
-        self.spend();
+        let Ticket { task } = self;
         task
     }
 
-    fn spend(mut self) {
-        self.spent = true;
+    // A call that was accepted ends the ticket; one that was refused gives it back.
+    fn end_by(self, called: Result<Account, Refusal>) -> Result<Account, (Refusal, Ticket)>
+        ensures { MatchResult called (λ account. result ≡ Ok account) (λ refusal. result ≡ Err (refusal, self)) }
+    {
+        match called {
+            Ok(account) => {
+                // A ticket has no `Drop`, so it ends here.
+                let Ticket { task: _ } = self;
+                Ok(account)
+            }
+            Err(refusal) => Err((refusal, self)),
+        }
     }
 }
