@@ -3,5 +3,4 @@ mod EndTests
 pub mod LineLaws
 mod Reaches
 mod Running
-mod Ticks
 mod Writes

@@ -28,7 +28,7 @@ impl<'a, R: LockRule> Manager<'a, R> {
         if !self.chart.has_task(task) {
             return Err(Refusal::NumberNotThere);
         }
-        if !self.roster.turn(task, Turn::Arrive) {
+        if self.roster.turn(task, Turn::Arrive).is_err() {
             return Err(Refusal::AlreadyOpen);
         }
         Ok(())
@@ -75,11 +75,10 @@ impl<'a, R: LockRule> Manager<'a, R> {
                 Ok(Locked::Wait(holder))
             }
             None => {
-                if self.locks.push(LockRecord { task, object, mode }) {
-                    Ok(Locked::Granted)
-                } else {
-                    Err(Refusal::LocksFull)
+                if self.locks.push(LockRecord { task, object, mode }).is_err() {
+                    return Err(Refusal::LocksFull);
                 }
+                Ok(Locked::Granted)
             }
         }
     }
@@ -156,7 +155,7 @@ impl<'a, R: LockRule> Manager<'a, R> {
             return Err(Refusal::NotCovered);
         }
         let old = cells[cell as usize];
-        if !self.journal.push(Image { task, cell, old }) {
+        if self.journal.push(Image { task, cell, old }).is_err() {
             return Err(Refusal::JournalFull);
         }
         cells[cell as usize] = value;

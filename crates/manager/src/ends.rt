@@ -85,9 +85,7 @@ impl<'a, R: LockRule> Manager<'a, R> {
             None => Ok(Ticked::Idle),
             Some(task) => {
                 let budget = self.chart.plan().budget(task as usize);
-                if !self.roster.tick(task, budget) {
-                    return Err(Refusal::BudgetSpent);
-                }
+                self.roster.tick(task, budget)?;
                 Ok(Ticked::Ran(task))
             }
         }

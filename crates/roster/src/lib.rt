@@ -6,4 +6,4 @@ mod standings;
 mod turns;
 
 pub use roster::Roster;
-pub use turns::Turn;
+pub use turns::{NotAllowed, Turn};

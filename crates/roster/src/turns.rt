@@ -1,5 +1,6 @@
 // What calls make of the tasks' records.
-ghost use Rattle.std.specs.Prelude.{◌≡◌, ◌<◌, ◌&&◌, map, if◌then◌else◌, nat_lt};
+ghost use Rattle.std.specs.Prelude.{◌≡◌, ◌<◌, ◌&&◌, map, if◌then◌else◌, Ok, Err, is_ok, nat_lt};
+ghost use Rattle.plans.specs.declared.refusal.Refusal.TheVariants.{BudgetSpent};
 ghost use Rattle.protocol.specs.Tasks.{standing_at, task_at};
 ghost use Rattle.protocol.specs.Machine.{change, wake, ticked, tick_from};
 ghost use Rattle.roster.specs.Records.{tasks_of};
@@ -7,7 +8,12 @@ ghost use Rattle.roster.specs.Turns.{allows, turned};
 
 use crate::roster::{Roster, TASKS};
 use crate::standings::{is_open, waits_for};
+use plans::Refusal;
 use protocol::{Standing, Task};
+
+// The task is not there, or does not stand so that it may.
+#[derive(Clone, Copy, Debug, PartialEq, Eq)]
+pub struct NotAllowed;
 
 // What a call may make of its task.
 #[derive(Clone, Copy)]
@@ -71,13 +77,13 @@ fn tick_all(tasks: &mut [Task], running: u8)
 }
 
 impl Roster {
-    // Whether the task is there and stands so that it may; if not, nothing changes.
-    pub fn turn(&mut self, task: u8, turn: Turn) -> bool
-        ensures allowed { result ≡ (nat_lt task 16 && allows (standing_at (tasks_of self.old) task) turn) }
-        ensures tasks { tasks_of self.new ≡ (if result then change (turned turn) (tasks_of self.old) task else tasks_of self.old) }
+    // A turn of the task, where it is there and stands so that it may; if not, nothing changes.
+    pub fn turn(&mut self, task: u8, turn: Turn) -> Result<(), NotAllowed>
+        ensures allowed { is_ok result ≡ (nat_lt task 16 && allows (standing_at (tasks_of self.old) task) turn) }
+        ensures tasks { tasks_of self.new ≡ (if is_ok result then change (turned turn) (tasks_of self.old) task else tasks_of self.old) }
     {
         if task as usize >= TASKS {
-            return false;
+            return Err(NotAllowed);
         }
         let t = &mut self.tasks[task as usize];
         match (t.standing, turn) {
@@ -88,20 +94,20 @@ impl Roster {
                     lost: 0,
                     lost_to: None,
                 };
-                true
+                Ok(())
             }
             (Standing::Ready, Turn::Wait(h)) => {
                 t.standing = Standing::Waiting(h);
-                true
+                Ok(())
             }
             (Standing::Ready, Turn::End) => {
                 t.standing = Standing::Resting;
-                true
+                Ok(())
             }
-            (Standing::Resting, Turn::Wait(_)) => false,
-            (Standing::Resting, Turn::End) => false,
-            (Standing::Ready, Turn::Arrive) => false,
-            (Standing::Waiting(_), _) => false,
+            (Standing::Resting, Turn::Wait(_)) => Err(NotAllowed),
+            (Standing::Resting, Turn::End) => Err(NotAllowed),
+            (Standing::Ready, Turn::Arrive) => Err(NotAllowed),
+            (Standing::Waiting(_), _) => Err(NotAllowed),
         }
     }
 
@@ -113,14 +119,14 @@ impl Roster {
     }
 
     // A tick of the running task, where its budget has one left; if not, nothing changes.
-    pub fn tick(&mut self, running: u8, budget: u16) -> bool
-        ensures allowed { result ≡ nat_lt (task_at (tasks_of self.old) running).used budget }
-        ensures tasks { tasks_of self.new ≡ (if result then tick_from running 0 (tasks_of self.old) else tasks_of self.old) }
+    pub fn tick(&mut self, running: u8, budget: u16) -> Result<(), Refusal>
+        ensures allowed { result ≡ (if nat_lt (task_at (tasks_of self.old) running).used budget then Ok tt else Err BudgetSpent) }
+        ensures tasks { tasks_of self.new ≡ (if is_ok result then tick_from running 0 (tasks_of self.old) else tasks_of self.old) }
     {
         if self.task(running).used >= budget {
-            return false;
+            return Err(Refusal::BudgetSpent);
         }
         tick_all(&mut self.tasks, running);
-        true
+        Ok(())
     }
 }

@@ -5,4 +5,4 @@ mod records;
 mod stack;
 
 pub use records::put_back_own;
-pub use stack::{Owned, Stack};
+pub use stack::{Full, Owned, Stack};

@@ -1,6 +1,10 @@
 // A stack of records in memory that the caller lends.
-ghost use Rattle.std.specs.Prelude.{◌≡◌, ℕ, not, [], ◌∷◌, ◌++◌, length, take, if◌then◌else◌, filter, ◌==◌, nat_lt};
+ghost use Rattle.std.specs.Prelude.{◌≡◌, ℕ, not, [], ◌∷◌, ◌++◌, length, take, if◌then◌else◌, filter, ◌==◌, nat_lt, is_ok};
 ghost use Rattle.stacks.specs.Stacks.{items, room, last_of};
+
+// There is no slot left.
+#[derive(Clone, Copy, Debug, PartialEq, Eq)]
+pub struct Full;
 
 // A record that belongs to a task.
 pub trait Owned {
@@ -40,19 +44,19 @@ impl<'a, T: Copy> Stack<'a, T> {
         self.as_slice().last().copied()
     }
 
-    // One record more; false, and nothing changes, where there is no slot left.
-    pub fn push(&mut self, x: T) -> bool
-        ensures taken { result ≡ nat_lt (length (items self.old)) (room self.old) }
-        ensures items { items self.new ≡ (if result then items self.old ++ (x ∷ []) else items self.old) }
+    // One record more, where there is a slot left; if not, nothing changes.
+    pub fn push(&mut self, x: T) -> Result<(), Full>
+        ensures taken { is_ok result ≡ nat_lt (length (items self.old)) (room self.old) }
+        ensures items { items self.new ≡ (if is_ok result then items self.old ++ (x ∷ []) else items self.old) }
         ensures room { room self.new ≡ room self.old }
     {
         let at = self.len;
         if at >= self.slots.len() {
-            return false;
+            return Err(Full);
         }
         self.slots[at] = x;
         self.len = at + 1;
-        true
+        Ok(())
     }
 }
 

@@ -12,5 +12,5 @@ use Rattle.manager.proofs.runner.end.Goals as goal
 pub returns : goal.returns
 returns c =
     let task = c.args.task in
-    let may = c.turn.ensures.allowed ∙ ap (λ ts. ltb task 16 && allows (standing_at ts task) End) c.wake.ensures ∙ may_end c.args.roster.now.tasks task c.args.roster.now.whole c.requires in
-    c.turn.ensures.tasks ∙ cond-true c.turn.result _ _ may ∙ ap (λ ts. change (stand Resting) ts task) c.wake.ensures
+    let may = c.turn-ready.ensures.allowed ∙ ap (λ ts. ltb task 16 && allows (standing_at ts task) End) c.wake.ensures ∙ may_end c.args.roster.now.tasks task c.args.roster.now.whole c.requires in
+    c.turn-ready.ensures.tasks ∙ cond-true _ _ _ may ∙ ap (λ ts. change (stand Resting) ts task) c.wake.ensures

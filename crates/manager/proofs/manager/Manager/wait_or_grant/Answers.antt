@@ -16,24 +16,24 @@ returns-in-Some g c =
       setup = refl;
     }
 
-pub returns-then-push : goal.returns-then-push
-returns-then-push g c =
+pub returns-else-is_err : goal.returns-else-is_err
+returns-else-is_err g c =
     let setup = setup_of g.R.LockRule.meaning c.args.self.now in
     let found = c.in-None.ensures ∙ ap (newest_task (blocks setup c.args.task)) c.as_slice-locks.ensures in
-    let out = λ (cells : List ℤ). granted setup (view c.args.self.now cells) c.args.task c.args.object c.args.mode found c.if-push.ensures.taken c.if-push.ensures.items in
+    let out = λ (cells : List ℤ). granted setup (view c.args.self.now cells) c.args.task c.args.object c.args.mode found (sym c.if-is_err.ensures.negation ∙ c.push.ensures.taken) (rw c.if-is_err.ensures.negation at c.push.ensures.items) in
     record {
       answer = λ cells. ap (λ (o : Outcome). o.answer) (sym (out cells));
       state = λ cells. ap (λ (o : Outcome). o.left) (sym (out cells));
-      setup = rw c.if-push.ensures.room;
+      setup = rw c.push.ensures.room;
     }
 
-pub returns-else-push : goal.returns-else-push
-returns-else-push g c =
+pub returns-then-is_err : goal.returns-then-is_err
+returns-then-is_err g c =
     let setup = setup_of g.R.LockRule.meaning c.args.self.now in
     let found = c.in-None.ensures ∙ ap (newest_task (blocks setup c.args.task)) c.as_slice-locks.ensures in
-    let out = λ (cells : List ℤ). locks_full setup (view c.args.self.now cells) c.args.task c.args.object c.args.mode found c.if-push.ensures.taken c.if-push.ensures.items in
+    let out = λ (cells : List ℤ). locks_full setup (view c.args.self.now cells) c.args.task c.args.object c.args.mode found (sym c.if-is_err.ensures.negation ∙ c.push.ensures.taken) (rw c.if-is_err.ensures.negation at c.push.ensures.items) in
     record {
       answer = λ cells. ap (λ (o : Outcome). o.answer) (sym (out cells));
       state = λ cells. ap (λ (o : Outcome). o.left) (sym (out cells));
-      setup = rw c.if-push.ensures.room;
+      setup = rw c.push.ensures.room;
     }
