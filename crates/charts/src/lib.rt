@@ -6,7 +6,6 @@ mod chart;
 mod cover;
 mod lookups;
 mod planned;
-mod questions;
 mod reading;
 mod starts;
 

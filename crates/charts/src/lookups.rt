@@ -6,7 +6,6 @@ ghost use Rattle.protocol.specs.Machine.{any, is_use};
 ghost use Rattle.charts.specs.Users.{is_of, highest_user};
 
 use crate::chart::{Chart, USERS};
-use crate::questions::{IsUse, some_passes};
 use plans::{Plan, Use};
 use rules::LockRule;
 
@@ -70,7 +69,7 @@ impl Chart {
     pub fn has_use(&self, task: u8, object: u8, mode: u8) -> bool
         ensures { result ≡ any (is_use task object mode) (contents self.now.plan).uses }
     {
-        some_passes(&IsUse { task, object, mode }, self.plan.uses())
+        self.plan.uses().contains(&Use { task, object, mode })
     }
 
     fn user(&self, object: u8, mode: u8) -> u8

@@ -1,14 +1,13 @@
 // The start values of the objects go into their cells.
-ghost use Rattle.std.specs.Prelude.{◌≡◌, ℕ, ◌+◌, ◌*◌, ◌<◌, ◌≤◌, not, ◌++◌, length, take, drop, if◌then◌else◌, nat_lt, slice_index_or};
+ghost use Rattle.std.specs.Prelude.{◌≡◌, ℕ, ◌+◌, ◌*◌, ◌<◌, ◌≤◌, ◌++◌, length, take, drop, if◌then◌else◌, nat_lt, slice_index_or, Ok, Err, OnOk, OnErr};
 ghost use Rattle.plans.specs.Plans.{contents};
+ghost use Rattle.plans.specs.declared.refusal.Refusal.TheVariants.{FewCells};
 ghost use Rattle.charts.specs.Starts.{started};
 ghost use Rattle.charts.specs.Users.{no_object};
 
 use crate::chart::Chart;
-use plans::Object;
-
-// Four for each of 32 objects.
-const CELLS: usize = 128;
+use plans::{Object, Refusal};
+use protocol::CELLS;
 
 fn start_object(object: Object, at: usize, cells: &mut [i32])
     requires room { at + 4 ≤ length cells.old }
@@ -32,14 +31,15 @@ fn start_all(objects: &[Object], cells: &mut [i32])
 
 impl Chart {
     // The objects' cells take their start values; with fewer than 128 cells nothing changes.
-    pub fn start(&self, cells: &mut [i32]) -> bool
-        ensures enough { result ≡ not (nat_lt (length cells.old) 128) }
-        ensures cells { cells.new ≡ (if result then started (contents self.now.plan).objects cells.old else cells.old) }
+    pub fn start(&self, cells: &mut [i32]) -> Result<(), Refusal>
+        ensures answer { result ≡ (if nat_lt (length cells.old) 128 then Err FewCells else Ok tt) }
+        ensures started { OnOk result (cells.new ≡ started (contents self.now.plan).objects cells.old) }
+        ensures untouched { OnErr result (cells.new ≡ cells.old) }
     {
         if cells.len() < CELLS {
-            return false;
+            return Err(Refusal::FewCells);
         }
         start_all(self.plan.objects(), cells);
-        true
+        Ok(())
     }
 }

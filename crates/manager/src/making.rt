@@ -29,9 +29,7 @@ impl<'a, R: LockRule + Drop> Manager<'a, R> {
         ensures untouched { OnErr result (cells.new ≡ cells.old) }
     {
         let (rule, chart) = planned.into_parts();
-        if !chart.start(cells) {
-            return Err(Refusal::FewCells);
-        }
+        chart.start(cells)?;
         Ok(Manager {
             rule,
             chart,
