@@ -11,7 +11,7 @@ pub(crate) fn wait(roster: &mut Roster, task: u8, holder: u8)
     requires { names task (running (tasks_of roster.old)) ≡ true }
     ensures { tasks_of roster.new ≡ change (stand (Waiting holder)) (tasks_of roster.old) task }
 {
-    let _ready = roster.turn(task, Turn::Wait(holder));
+    roster.turn(task, Turn::Wait(holder)).unwrap();
 }
 
 // Those that wait for it become ready.
@@ -20,5 +20,5 @@ pub(crate) fn end(roster: &mut Roster, task: u8)
     ensures { tasks_of roster.new ≡ change (stand Resting) (map (wake task) (tasks_of roster.old)) task }
 {
     roster.wake(task);
-    let _ready = roster.turn(task, Turn::End);
+    roster.turn(task, Turn::End).unwrap();
 }

@@ -14,9 +14,9 @@ loop-i-preserved g c =
     let inv = c.loop-i.invariant in
     let done = c.make_call.ensures in
     let call = get_or c.args.calls.now c.loop-i.i (Arrive 0) in (
-      done.setup ∙ inv.0,
-      done.state ∙ ap (λ u. (step u here call).left) inv.0 ∙ final_more setup s here c.args.calls.now c.loop-i.i (Arrive 0) (omega arith) inv.1,
-      answers_more setup s here c.args.calls.now c.loop-i.i (Arrive 0) (omega arith) inv.1 c.args.answers.now c.loop-i.answers (omega arith) inv.2 c.make_call.result (done.answer ∙ ap (λ u. (step u here call).answer) inv.0),
+      done.keeps ∙ inv.0,
+      done.leaves ∙ ap (λ u. (step u here call).left) inv.0 ∙ final_more setup s here c.args.calls.now c.loop-i.i (Arrive 0) (omega arith) inv.1,
+      answers_more setup s here c.args.calls.now c.loop-i.i (Arrive 0) (omega arith) inv.1 c.args.answers.now c.loop-i.answers (omega arith) inv.2 c.make_call.result (done.answers ∙ ap (λ u. (step u here call).answer) inv.0),
     )
 
 pub returns : goal.returns
