@@ -46,19 +46,12 @@ impl<'a, R: LockRule> Manager<'a, R> {
         }
     }
 
-    // Makes the call.
-    fn make_call(&mut self, cells: &mut [i32], call: Call) -> Answer
-        ensures { Does R.meaning (λ setup s. step setup s call) self.old self.new cells.old cells.new result }
-    {
-        self.try_call(cells, call).unwrap_or_else(Answer::Refused)
-    }
-
     // Makes the call. Whatever calls were made since the making, all laws hold of their line with this one.
     pub fn call(&mut self, cells: &mut [i32], call: Call) -> Answer
         ensures does { Does R.meaning (λ setup s. step setup s call) self.old self.new cells.old cells.new result }
         ensures laws { LeadsOn (setup_of R.meaning self.old) (view self.old cells.old) (view self.new cells.new) (λ line. record { call = call; answer = result } ∷ line) }
     {
-        self.make_call(cells, call)
+        self.try_call(cells, call).unwrap_or_else(Answer::Refused)
     }
 
     // Makes the calls in their order, as many as there is room for answers, and says how many they were.
@@ -69,10 +62,11 @@ impl<'a, R: LockRule> Manager<'a, R> {
         ensures setup { setup_of R.meaning self.new ≡ setup_of R.meaning self.old }
         ensures laws { LeadsOn (setup_of R.meaning self.old) (view self.old cells.old) (view self.new cells.new) (line_with (setup_of R.meaning self.old) (view self.old cells.old) (take result calls.now)) }
     {
-        let count = calls.len().min(answers.len());
-        for i in 0..count {
-            answers[i] = self.make_call(cells, calls[i]);
+        let calls = &calls[..calls.len().min(answers.len())];
+        // Not `answers.iter_mut().zip(calls)`: of what goes through an adapter of iter_mut a proof knows nothing afterwards.
+        for (i, call) in calls.iter().enumerate() {
+            answers[i] = self.call(cells, *call);
         }
-        count
+        calls.len()
     }
 }
