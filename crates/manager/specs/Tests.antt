@@ -1,5 +1,5 @@
 -- What is left of a call once its tests are made. Assumes nothing.
-use Rattle.std.specs.Prelude.{ℕ, cond, not, ◌&&◌, List, length, ℤ, Ok, Err, Result, nat_lt}
+use Rattle.std.specs.Prelude.{◌≡◌, ℕ, true, cond, not, ◌&&◌, List, length, ℤ, Ok, Err, Result, nat_lt}
 use Rattle.rules.specs.Meaning.{is_part}
 use Rattle.plans.specs.declared.refusal.Refusal.{Refusal}
 use Rattle.plans.specs.declared.refusal.Refusal.TheVariants.{FewCells, NumberNotThere, NotRunning}
@@ -12,6 +12,10 @@ use Rattle.protocol.specs.declared.words.Task.{Task}
 abbrev pub after : {X : Type 0} → State → Result X Refusal → Outcome → Outcome
 after s (Ok x) next = next
 after s (Err why) next = refuse s why
+
+-- the task is the one that runs
+abbrev pub IsRunning : List Task → ℕ → Type 0
+IsRunning tasks task = names task (running tasks) ≡ true
 
 -- whether there are enough cells
 abbrev pub few : List ℤ → Result (Unit {0}) Refusal

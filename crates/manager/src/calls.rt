@@ -1,8 +1,7 @@
 // The calls: each answers and leaves what the machine says.
-ghost use Rattle.std.specs.Prelude.{◌≡◌, ◌<◌, true, List, length, ℤ, IfOk, OnOk};
-ghost use Rattle.protocol.specs.Machine.{names, cell_of, Outcome, arrive, lock, read, write};
-ghost use Rattle.protocol.specs.Tasks.{running};
-ghost use Rattle.manager.specs.Tests.{after, asked, few, own, reach};
+ghost use Rattle.std.specs.Prelude.{◌≡◌, ◌<◌, List, length, ℤ, IfOk, OnOk};
+ghost use Rattle.protocol.specs.Machine.{cell_of, Outcome, arrive, lock, read, write};
+ghost use Rattle.manager.specs.Tests.{IsRunning, after, asked, few, own, reach};
 ghost use Rattle.manager.specs.View.{setup_of, view, Does, arrive_answer, lock_answer, read_answer, write_answer};
 
 use crate::answers::Locked;
@@ -40,7 +39,7 @@ impl<'a, R: LockRule> Manager<'a, R> {
     // The task may make a call of its own: it is there, and it runs.
     pub(crate) fn runs(&self, task: u8) -> Result<(), Refusal>
         ensures answer { result ≡ own (setup_of R.meaning self.now) self.now.roster.tasks task }
-        ensures runs { OnOk result (names task (running self.now.roster.tasks) ≡ true) }
+        ensures runs { OnOk result (IsRunning self.now.roster.tasks task) }
     {
         if !self.chart.has_task(task) {
             return Err(Refusal::NumberNotThere);
@@ -54,7 +53,7 @@ impl<'a, R: LockRule> Manager<'a, R> {
     // The task may ask for the lock: then it runs, and waits or is granted.
     fn may_ask(&self, wanted: LockRecord) -> Result<(), Refusal>
         ensures lock { (cells : List ℤ) → lock (setup_of R.meaning self.now) (view self.now cells) wanted.task wanted.object wanted.mode ≡ after (view self.now cells) result (asked (setup_of R.meaning self.now) (view self.now cells) wanted) }
-        ensures runs { OnOk result (names wanted.task (running self.now.roster.tasks) ≡ true) }
+        ensures runs { OnOk result (IsRunning self.now.roster.tasks wanted.task) }
     {
         let LockRecord { task, object, mode } = wanted;
         if !self.chart.has_object(object) || mode >= self.rule.modes() {
@@ -72,7 +71,7 @@ impl<'a, R: LockRule> Manager<'a, R> {
 
     // The running task waits for who has the newest blocking lock; where there is none, its own lock becomes the newest.
     fn wait_or_grant(&mut self, wanted: LockRecord) -> Result<Locked, Refusal>
-        requires { names wanted.task (running self.old.roster.tasks) ≡ true }
+        requires { IsRunning self.old.roster.tasks wanted.task }
         ensures { (cells : List ℤ) → Does R.meaning (λ setup s. asked setup s wanted) self.old self.new cells cells (lock_answer result) }
     {
         let locks = self.locks.as_slice();

@@ -1,7 +1,7 @@
 // The calls that end an instance, and the tick.
-ghost use Rattle.std.specs.Prelude.{◌≡◌, true, List, ℤ};
-ghost use Rattle.protocol.specs.Machine.{names, account_of, ended, close, drop_task, tick};
-ghost use Rattle.protocol.specs.Tasks.{running};
+ghost use Rattle.std.specs.Prelude.{◌≡◌, List, ℤ};
+ghost use Rattle.protocol.specs.Machine.{account_of, ended, close, drop_task, tick};
+ghost use Rattle.manager.specs.Tests.{IsRunning};
 ghost use Rattle.manager.specs.View.{setup_of, view, Does, close_answer, drop_answer, tick_answer};
 
 use crate::calls::enough;
@@ -15,7 +15,7 @@ use stacks::put_back_own;
 impl<'a, R: LockRule> Manager<'a, R> {
     // The running task rests, its locks and images leave, and those that wait for it become ready. What it has used and lost.
     fn end(&mut self, task: u8) -> Account
-        requires { names task (running self.old.roster.tasks) ≡ true }
+        requires { IsRunning self.old.roster.tasks task }
         ensures account { (cells : List ℤ) → result ≡ account_of (view self.old cells) task }
         ensures state { (cells : List ℤ) (left : List ℤ) → view self.new left ≡ ended (view self.old cells) task left }
         ensures setup { setup_of R.meaning self.new ≡ setup_of R.meaning self.old }
