@@ -1,2 +1,2 @@
-mod ServedTasks
+pub mod ServedTasks
 mod Ticks

@@ -1,21 +1,31 @@
 -- Places and the served word: one task more, and what a place names. Assumes nothing.
-use Rattle.std.proofs.Common.{◌≡◌, ℕ, suc, ◌+◌, ◌-◌, ◌*◌, ◌%◌, ◌^◌, ◌<◌, ◌≤◌, min, Bool, true, false, cond, ◌&&◌, eqb, List, length, get_or, drop, Some, None, Option, sym, refl, ap, ◌∙◌, inl, inr, mod-eq_of_lt, pow-suc, add-one, arith}
-use lib.Bits.{bit_or, or_shifted_r}
+use Rattle.std.proofs.Common.{◌≡◌, ℕ, suc, ◌+◌, ◌*◌, ◌%◌, ◌^◌, ◌<◌, ◌≤◌, min, Bool, true, false, cond, ◌&&◌, eqb, List, [], ◌∷◌, length, ltb, Some, None, Option, filter, zero, sym, refl, ap, ◌∙◌, inl, inr, mod-eq_of_lt, pow-suc, add-one, arith}
 use lib.Count.{count_trailing_zeros, trailing_of_zero}
 use lib.Pow.{pow-lt}
-use Rattle.std.proofs.lemmas.List.{at_drop_more}
-use Rattle.std.proofs.lemmas.Bool.{cases_Bool, both_ways, and_parts, eqb-true, eq-eqb}
+use Rattle.std.specs.List.{position, position_or_len, range_with_len, sum_by}
+use Rattle.std.proofs.lemmas.List.Sums.{sum_by-cons}
+use Rattle.std.specs.Option.{unwrap_or}
+use Rattle.std.proofs.lemmas.Bool.Decides.{nat_tests}
+use Rattle.std.proofs.lemmas.Bool.{cases_Bool, both_ways, and_parts, eqb-true, eq-eqb, lt-ltb, le-ltb}
 use Rattle.protocol.specs.Served.{named_by}
-use Rattle.protocol.specs.Tasks.{resting, standing_at, is_ready, waits_for, place, place_from, has_place, served_from, served, running}
-use Rattle.protocol.specs.declared.words.Standing.{Standing}
+use Rattle.protocol.specs.Tasks.{standing_at, is_ready, waits_for, place, place_from, has_place, served_from, served, running}
 use Rattle.protocol.specs.declared.words.Task.{Task}
 use Rattle.protocol.proofs.Moves.{ready_there}
 use Rattle.protocol.proofs.Places.{ready_is, place_most, runs}
 use Rattle.protocol.proofs.ServedWord.{has_place_is, place_had, served_agrees}
 
--- the place among the tasks from k on, one task further
-pub place_step : (ts : List Task) (k task : ℕ) → k < length ts → place_from k (drop k ts) task ≡ (let rest = place_from (k + 1) (drop (k + 1) ts) task in cond (waits_for task (get_or ts k resting).standing) (min k rest) rest)
-place_step ts k task l = at_drop_more (λ us. place_from k us task) ts k resting l ∙ ap (λ n. let rest = place_from n (drop (k + 1) ts) task in cond (waits_for task (get_or ts k resting).standing) (min k rest) rest) (sym (add-one k))
+-- the place among the tasks from k on, by the first of them that waits
+place_from_first : (k task : ℕ) (ts : List Task) → (let first = position_or_len (λ (t : Task). waits_for task t.standing) ts in place_from k ts task ≡ cond (ltb first (length ts)) (min (k + first) task) task)
+place_from_first k task [] = refl
+place_from_first k task (t ∷ ts) =
+    let later = place_from_first (suc k) task ts in
+    elim (cases_Bool (waits_for task t.standing)) [
+      | inl waits ↦ rw waits (grind (arith, nat_tests))
+      | inr other ↦ rw other (grind (arith, nat_tests))
+    ]
+
+pub place_first : (ts : List Task) (task : ℕ) → place ts task ≡ min (unwrap_or (position (λ (t : Task). waits_for task t.standing) ts) task) task
+place_first ts task = let all = place_from_first 0 task ts in grind (arith, nat_tests)
 
 -- a place can only be that of the task that it names
 pub place_of_named : (tasks : List Task) → length tasks ≡ 16 → (k : ℕ) → (let j = named_by (standing_at tasks k) k in (is_ready (standing_at tasks j) && eqb (place tasks j) k) ≡ has_place tasks k 0 tasks)
@@ -36,38 +46,38 @@ place_of_named tasks whole k = elim (cases_Bool (has_place tasks k 0 tasks)) [
     not_both : {x y : Bool} → (x ≡ true → y ≡ true → ⊥) → (x && y) ≡ false
     not_both {x} {y} no_way = elim (cases_Bool (x && y)) [ inr e ↦ e | inl e ↦ absurd (no_way (and_parts x y e).0 (and_parts x y e).1) ]
 
--- the same, of a task that was found by way of the standing
-pub place_of_found : (tasks : List Task) → length tasks ≡ 16 → (k task : ℕ) (here : Standing) → here ≡ standing_at tasks k → task ≡ named_by here k → (is_ready (standing_at tasks task) && eqb (place tasks task) k) ≡ has_place tasks k 0 tasks
-place_of_found tasks whole k task here at found = rw (found ∙ ap (λ s. named_by s k) at) (place_of_named tasks whole k)
+-- the bits of the places from k on, n of them, as they are added up
+pub served_sum : (tasks : List Task) (k n : ℕ) → k + n ≤ 16 → sum_by (λ p. 1 * 2 ^ p % 65536) (filter (λ p. has_place tasks p 0 tasks) (range_with_len k n)) ≡ served_from tasks k n
+served_sum tasks k zero l = refl
+served_sum tasks k (suc n) l =
+    let fits : 1 * 2 ^ k % 65536 ≡ 2 ^ k = mod-eq_of_lt (omega (arith, pow-lt {i = k} {j = 16} (omega arith))) ∙ omega arith in
+    let rest = rw add-one at (served_sum tasks (k + 1) n (omega arith)) in
+    elim (cases_Bool (has_place tasks k 0 tasks)) [
+      | inl had ↦ rw (had, add-one) (omega (arith, fits, rest, sum_by-cons (λ p. 1 * 2 ^ p % 65536) k (filter (λ p. has_place tasks p 0 tasks) (range_with_len (suc k) n))))
+      | inr none ↦ rw (none, add-one) (omega (arith, rest))
+    ]
 
--- the bits of the places from k on, one place further
-module _ (tasks : List Task) (k word total : ℕ) (left : k < 16) (small : word < 2 ^ k) (so_far : word + served_from tasks k (16 - k) ≡ total) where
-  next : 16 - k ≡ suc (16 - (k + 1))
-  next = omega arith
-
-  step : word + (cond (has_place tasks k 0 tasks) (2 ^ k) 0 + served_from tasks (k + 1) (16 - (k + 1))) ≡ total
-  step = ap (λ n. word + (cond (has_place tasks k 0 tasks) (2 ^ k) 0 + served_from tasks n (16 - (k + 1)))) (add-one k) ∙ (rw next at so_far)
-
-  pub bit_more : has_place tasks k 0 tasks ≡ true → (let joined = bit_or word (1 * 2 ^ k % 65536) in (joined < 2 ^ (k + 1)) × (joined + served_from tasks (k + 1) (16 - (k + 1)) ≡ total))
-  bit_more had =
-      let fits : 1 * 2 ^ k % 65536 ≡ 1 * 2 ^ k = mod-eq_of_lt (omega (arith, pow-lt left)) in
-      let sum : bit_or word (1 * 2 ^ k % 65536) ≡ word + 2 ^ k = ap (bit_or word) fits ∙ (or_shifted_r 1 k word small ∙ omega arith) in
-      let here : word + (2 ^ k + served_from tasks (k + 1) (16 - (k + 1))) ≡ total = rw had at step in
-      (omega (arith, sum, pow-suc 2 k, ap (λ n. 2 ^ n) (add-one k)), omega (arith, sum, here))
-
-  pub bit_skip : has_place tasks k 0 tasks ≡ false → (word < 2 ^ (k + 1)) × (word + served_from tasks (k + 1) (16 - (k + 1)) ≡ total)
-  bit_skip none =
-      let here : word + (0 + served_from tasks (k + 1) (16 - (k + 1))) ≡ total = rw none at step in
-      (omega (arith, pow-suc 2 k, ap (λ n. 2 ^ n) (add-one k)), omega (arith, here))
+-- they fit n bits
+pub served_fits : (tasks : List Task) (k n : ℕ) → served_from tasks k n + 2 ^ k ≤ 2 ^ (k + n)
+served_fits tasks k zero = let same : k + 0 ≡ k = omega arith in rw same (omega arith)
+served_fits tasks k (suc n) =
+    let rest = served_fits tasks (suc k) n in
+    let same : suc k + n ≡ k + suc n = omega arith in
+    elim (cases_Bool (has_place tasks k 0 tasks)) [
+      | inl had ↦ rw had (omega (arith, pow-suc 2 k, rw same at rest))
+      | inr none ↦ rw none (omega (arith, pow-suc 2 k, rw same at rest))
+    ]
 
 -- the lowest bit of the served word tells who runs
-module _ (tasks : List Task) (whole : length tasks ≡ 16) (place_found : ℕ) (lowest_bit : place_found ≡ count_trailing_zeros 16 (served tasks)) where
-  pub nobody_runs : 16 ≤ place_found → (o : Option ℕ) → running tasks ≡ o → None ≡ o
-  nobody_runs past None e = refl
-  nobody_runs past (Some j) e = absurd (omega (arith, lowest_bit, (served_agrees tasks whole).lowest j e, place_most 0 tasks j, ready_there tasks j (runs tasks j e).ready))
+pub running_at : (tasks : List Task) → length tasks ≡ 16 → (let p = count_trailing_zeros 16 (served tasks) in running tasks ≡ cond (ltb p 16) (Some (named_by (standing_at tasks p) p)) None)
+running_at tasks whole = go (running tasks) refl
+  where
+    p : ℕ
+    p = count_trailing_zeros 16 (served tasks)
 
-  pub named_runs : place_found < 16 → (o : Option ℕ) → running tasks ≡ o → Some (named_by (standing_at tasks place_found) place_found) ≡ o
-  named_runs there None e = absurd (omega (arith, lowest_bit, ap (count_trailing_zeros 16) ((served_agrees tasks whole).nobody e) ∙ trailing_of_zero 16))
-  named_runs there (Some j) e =
-      let at : place_found ≡ place tasks j = lowest_bit ∙ sym ((served_agrees tasks whole).lowest j e) in
-      ap Some (ap (λ p. named_by (standing_at tasks p) p) at ∙ (served_agrees tasks whole).names_its j (runs tasks j e).ready)
+    go : (o : Option ℕ) → running tasks ≡ o → o ≡ cond (ltb p 16) (Some (named_by (standing_at tasks p) p)) None
+    go None e = rw (le-ltb p 16 (omega (arith, ap (count_trailing_zeros 16) ((served_agrees tasks whole).nobody e) ∙ trailing_of_zero 16)))
+    go (Some j) e =
+        let at : place tasks j ≡ p = (served_agrees tasks whole).lowest j e in
+        let there : p < 16 = omega (arith, at, whole, place_most 0 tasks j, ready_there tasks j (runs tasks j e).ready) in
+        rw (lt-ltb p 16 there) (ap Some (sym ((served_agrees tasks whole).names_its j (runs tasks j e).ready) ∙ ap (λ n. named_by (standing_at tasks n) n) at))

@@ -7,7 +7,6 @@ ghost use Rattle.roster.specs.Records.{tasks_of};
 ghost use Rattle.roster.specs.Turns.{allows, turned};
 
 use crate::roster::{Roster, TASKS};
-use crate::standings::{is_open, waits_for};
 use plans::Refusal;
 use protocol::{Standing, Task};
 
@@ -16,34 +15,12 @@ use protocol::{Standing, Task};
 pub struct NotAllowed;
 
 // What a call may make of its task.
-#[derive(Clone, Copy)]
+#[derive(Clone, Copy, Debug, PartialEq, Eq)]
 pub enum Turn {
     Arrive,
     // For the task with this number.
     Wait(u8),
     End,
-}
-
-// One that waits for the task becomes ready.
-fn woken(t: Task, task: usize) -> Task
-    ensures { result ≡ wake task t }
-{
-    if waits_for(t.standing, task) {
-        Task {
-            standing: Standing::Ready,
-            ..t
-        }
-    } else {
-        t
-    }
-}
-
-fn wake_all(tasks: &mut [Task], task: usize)
-    ensures { tasks.new ≡ map (wake task) tasks.old }
-{
-    for t in tasks.iter_mut() {
-        *t = woken(*t, task);
-    }
 }
 
 // What a tick of the running task does to the record of task k: an open task above the running one loses it.
@@ -56,7 +33,7 @@ fn after_tick(running: u8, k: usize, t: Task) -> Task
             used: t.used + 1,
             ..t
         }
-    } else if k < running as usize && is_open(t.standing) {
+    } else if k < running as usize && t.standing != Standing::Resting {
         Task {
             lost: t.lost.saturating_add(1),
             lost_to: Some(running),
@@ -67,55 +44,40 @@ fn after_tick(running: u8, k: usize, t: Task) -> Task
     }
 }
 
-fn tick_all(tasks: &mut [Task], running: u8)
-    requires { (task_at tasks.old running).used < 65535 }
-    ensures { tasks.new ≡ tick_from running 0 tasks.old }
-{
-    for k in 0..tasks.len() {
-        tasks[k] = after_tick(running, k, tasks[k]);
-    }
-}
-
 impl Roster {
     // A turn of the task, where it is there and stands so that it may; if not, nothing changes.
     pub fn turn(&mut self, task: u8, turn: Turn) -> Result<(), NotAllowed>
         ensures allowed { is_ok result ≡ (nat_lt task 16 && allows (standing_at (tasks_of self.old) task) turn) }
         ensures tasks { tasks_of self.new ≡ (if is_ok result then change (turned turn) (tasks_of self.old) task else tasks_of self.old) }
     {
-        if task as usize >= TASKS {
+        let k = usize::from(task);
+        if k >= TASKS {
             return Err(NotAllowed);
         }
-        let t = &mut self.tasks[task as usize];
+        let t = &mut self.tasks[k];
         match (t.standing, turn) {
             (Standing::Resting, Turn::Arrive) => {
                 *t = Task {
                     standing: Standing::Ready,
-                    used: 0,
-                    lost: 0,
-                    lost_to: None,
+                    ..Task::default()
                 };
-                Ok(())
             }
-            (Standing::Ready, Turn::Wait(h)) => {
-                t.standing = Standing::Waiting(h);
-                Ok(())
-            }
-            (Standing::Ready, Turn::End) => {
-                t.standing = Standing::Resting;
-                Ok(())
-            }
-            (Standing::Resting, Turn::Wait(_)) => Err(NotAllowed),
-            (Standing::Resting, Turn::End) => Err(NotAllowed),
-            (Standing::Ready, Turn::Arrive) => Err(NotAllowed),
-            (Standing::Waiting(_), _) => Err(NotAllowed),
+            (Standing::Ready, Turn::Wait(holder)) => t.standing = Standing::Waiting(holder),
+            (Standing::Ready, Turn::End) => t.standing = Standing::Resting,
+            _ => return Err(NotAllowed),
         }
+        Ok(())
     }
 
     // Those that wait for the task become ready.
     pub fn wake(&mut self, task: u8)
         ensures { tasks_of self.new ≡ map (wake task) (tasks_of self.old) }
     {
-        wake_all(&mut self.tasks, task as usize);
+        for t in self.tasks.iter_mut() {
+            if t.standing == Standing::Waiting(task) {
+                t.standing = Standing::Ready;
+            }
+        }
     }
 
     // A tick of the running task, where its budget has one left; if not, nothing changes.
@@ -126,7 +88,9 @@ impl Roster {
         if self.task(running).used >= budget {
             return Err(Refusal::BudgetSpent);
         }
-        tick_all(&mut self.tasks, running);
+        for (k, t) in self.tasks.iter_mut().enumerate() {
+            *t = after_tick(running, k, *t);
+        }
         Ok(())
     }
 }

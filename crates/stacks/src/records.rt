@@ -22,10 +22,12 @@ impl Owned for Image {
 }
 
 // The cell holds again what it held before the write.
-fn restore(image: Image, cells: &mut [i32])
-    ensures { cells.new ≡ slice_set cells.old image.cell image.old }
+#[tactic(auto, using(std::proofs::lemmas::List::set_past))]
+fn restore(image: &Image, cells: &mut [i32])
+    ensures { cells.new ≡ slice_set cells.old image.now.cell image.now.old }
 {
-    let cell = image.cell as usize;
+    let cell = usize::from(image.cell);
+    // By place: no clause says what a slice holds after its `get_mut`, so the equation on the cells stays open there.
     if cell < cells.len() {
         cells[cell] = image.old;
     }
@@ -35,9 +37,9 @@ fn restore(image: Image, cells: &mut [i32])
 pub fn put_back_own(images: &[Image], task: u8, cells: &mut [i32])
     ensures { cells.new ≡ put_back (filter (own_image task) images.now) cells.old }
 {
-    for i in (0..images.len()).rev() {
-        if images[i].task == task {
-            restore(images[i], cells);
+    for image in images.iter().rev() {
+        if image.task == task {
+            restore(image, cells);
         }
     }
 }

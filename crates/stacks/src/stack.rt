@@ -1,6 +1,8 @@
 // A stack of records in memory that the caller lends.
-ghost use Rattle.std.specs.Prelude.{◌≡◌, ℕ, not, [], ◌∷◌, ◌++◌, length, take, if◌then◌else◌, filter, ◌==◌, nat_lt, is_ok};
-ghost use Rattle.stacks.specs.Stacks.{items, room, last_of};
+ghost use Rattle.std.specs.Prelude.{◌≡◌, ℕ, not, [], ◌∷◌, ◌++◌, ◌-◌, ◌≤◌, length, take, if◌then◌else◌, filter, ◌==◌, nat_lt, is_ok, slice_get};
+ghost use Rattle.stacks.specs.Stacks.{items, room};
+
+use std::marker::Model;
 
 // There is no slot left.
 #[derive(Clone, Copy, Debug, PartialEq, Eq)]
@@ -21,6 +23,17 @@ pub struct Stack<'a, T> {
     len: usize,
 }
 
+impl<'a, T> Model for Stack<'a, T> {
+    ghost use Rattle.std.specs.Prelude.{◌≤◌, length, take};
+    ghost use Rattle.stacks.specs.Stacked.{Stacked};
+
+    ghost Value = { Stacked T };
+
+    ghost view = { λ a. record { records = take a.len a.slots.now; slots = length a.slots.now } };
+
+    ghost invariant = { λ a. a.len ≤ length a.slots.now };
+}
+
 impl<'a, T: Copy> Stack<'a, T> {
     // No record yet, and room for as many as there are slots.
     pub fn new(slots: &'a mut [T]) -> Stack<'a, T>
@@ -33,13 +46,12 @@ impl<'a, T: Copy> Stack<'a, T> {
     pub fn as_slice(&self) -> &[T]
         ensures { result.now ≡ items self.now }
     {
-        let len = self.len.min(self.slots.len());
-        &self.slots[0..len]
+        &self.slots[..self.len]
     }
 
     // The record that was pushed last.
     pub fn newest(&self) -> Option<T>
-        ensures { result ≡ last_of (items self.now) }
+        ensures { result ≡ slice_get (items self.now) (length (items self.now) - 1) }
     {
         self.as_slice().last().copied()
     }
@@ -50,29 +62,30 @@ impl<'a, T: Copy> Stack<'a, T> {
         ensures items { items self.new ≡ (if is_ok result then items self.old ++ (x ∷ []) else items self.old) }
         ensures room { room self.new ≡ room self.old }
     {
-        let at = self.len;
-        if at >= self.slots.len() {
+        if self.len == self.slots.len() {
             return Err(Full);
         }
-        self.slots[at] = x;
-        self.len = at + 1;
+        self.slots[self.len] = x;
+        self.len += 1;
         Ok(())
     }
 }
 
-// The records of the first `len` slots that are not the task's move to the front, in their order. How many they are.
-fn keep_others<T: Copy + Owned>(slots: &mut [T], len: usize, task: u8) -> usize
-    ensures { take result slots.new ≡ filter (λ x. not (T.Owned.owner x == task)) (take len slots.old) }
+// The records that are not the task's move to the front, in their order. How many they are.
+fn keep_others<T: Copy + Owned>(records: &mut [T], task: u8) -> usize
+    ensures kept { take result records.new ≡ filter (λ x. not (T.Owned.owner x == task)) records.old }
+    ensures fewer { result ≤ length records.old }
 {
-    let mut next: usize = 0;
-    for i in 0..len.min(slots.len()) {
-        let x = slots[i];
+    let mut kept = 0;
+    // By place, since a slice has no `retain`, and one that is gone through by reference cannot be written.
+    for i in 0..records.len() {
+        let x = records[i];
         if x.owner() != task {
-            slots[next] = x;
-            next += 1;
+            records[kept] = x;
+            kept += 1;
         }
     }
-    next
+    kept
 }
 
 impl<'a, T: Copy + Owned> Stack<'a, T> {
@@ -81,7 +94,6 @@ impl<'a, T: Copy + Owned> Stack<'a, T> {
         ensures items { items self.new ≡ filter (λ x. not (T.Owned.owner x == task)) (items self.old) }
         ensures room { room self.new ≡ room self.old }
     {
-        let len = self.len;
-        self.len = keep_others(self.slots, len, task);
+        self.len = keep_others(&mut self.slots[..self.len], task);
     }
 }

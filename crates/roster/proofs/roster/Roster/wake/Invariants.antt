@@ -1,7 +1,7 @@
 use Rattle.std.proofs.Common.{◌≡◌, ◌++◌, map, take, drop}
 use Rattle.protocol.specs.Machine.{wake}
-use Rattle.roster.proofs.turns.wake_all.Given as goal
+use Rattle.roster.proofs.roster.Roster.wake.Given as goal
 
 -- those before are woken, the others are as they were
 abbrev pub invariant-loop-t : goal.invariant-loop-t
-invariant-loop-t l = l.tasks ≡ map (wake l.task) (take l.t-index l.initial.tasks) ++ drop l.t-index l.initial.tasks
+invariant-loop-t l = l.t-items ≡ map (wake l.task) (take l.t-index l.fn.self.tasks) ++ drop l.t-index l.fn.self.tasks

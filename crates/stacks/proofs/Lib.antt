@@ -1,2 +1,0 @@
-mod Stacks
-mod Images
