@@ -1,3 +1,1 @@
-mod Lists
 mod Users
-mod StartValues

@@ -8,14 +8,8 @@ use crate::chart::Chart;
 use protocol::LockRecord;
 use rules::LockRule;
 
-// Another task has the lock, and its ceiling is at most the caller's own number.
-fn blocks<R: LockRule>(rule: &R, chart: &Chart, task: u8, r: LockRecord) -> bool
-    ensures { result ≡ blocks_under (R.meaning rule.now) (contents chart.now.plan).uses task r }
-{
-    r.task != task && chart.ceiling(rule, r.object, r.mode) <= task
-}
-
-// The task of the newest lock that blocks.
+// The task of the newest lock that blocks: another task has it, and its ceiling is at most the caller's own number.
+// The rule and the chart come apart, as a manager holds them: it is defined by the two, and has no `Planned` to lend.
 pub fn newest_blocker<R: LockRule>(
     rule: &R,
     chart: &Chart,
@@ -24,10 +18,9 @@ pub fn newest_blocker<R: LockRule>(
 ) -> Option<u8>
     ensures { result ≡ newest_task (blocks_under (R.meaning rule.now) (contents chart.now.plan).uses task) locks.now }
 {
-    for i in (0..locks.len()).rev() {
-        if blocks(rule, chart, task, locks[i]) {
-            return Some(locks[i].task);
-        }
-    }
-    None
+    locks
+        .iter()
+        .rev()
+        .find(|r| r.task != task && chart.ceiling(rule, r.object, r.mode) <= task)
+        .map(|r| r.task)
 }

@@ -1,25 +1,24 @@
 // A plan that was accepted, with the highest user of each object in each mode at hand.
-ghost use Rattle.std.specs.Prelude.{◌≡◌, ℕ, ◌/◌, ◌%◌, ◌<◌, ◌≤◌, length, slice_index, slice_index_or};
+ghost use Rattle.std.specs.Prelude.{◌≡◌, ℕ, ◌≤◌, length};
 ghost use Rattle.plans.specs.Plans.{contents};
-ghost use Rattle.charts.specs.Users.{no_object, highest_user};
+ghost use Rattle.charts.specs.Users.{entry, highest_user};
 
 use plans::Plan;
 
-// 8 modes for each of 32 objects.
-pub(crate) const USERS: usize = 256;
+// A plan has at most 32 objects.
+pub(crate) const OBJECTS: usize = 32;
+
+// A rule has at most 8 modes.
+pub(crate) const MODES: usize = 8;
 
 #[derive(Drop)]
 pub struct Chart {
     pub(crate) plan: Plan,
-    // At 8 × object + mode, the highest task that may lock the object in the mode.
-    pub(crate) users: [u8; USERS],
+    // At each object, then each mode, the highest task that may lock the object in the mode.
+    pub(crate) users: [[u8; MODES]; OBJECTS],
     // Every task has one of the 16 records.
     ghost few_tasks: { length (contents plan).rows ≤ 16 },
     // Every object has its 4 of the 128 cells.
     ghost few_objects: { length (contents plan).objects ≤ 32 },
-    ghost each: { (at : ℕ) → at < 256 → slice_index users at ≡ highest_user (contents plan).uses (at / 8) (at % 8) },
-    // Every object has a start value for each of its cells.
-    ghost four: { (object : ℕ) → object < length (contents plan).objects → length (slice_index_or (contents plan).objects object no_object).start ≡ 4 },
-    // No use is of an object past the last.
-    ghost past: { (object mode : ℕ) → 32 ≤ object → highest_user (contents plan).uses object mode ≡ 16 },
+    ghost each: { (object mode : ℕ) → entry users object mode ≡ highest_user (contents plan).uses object mode },
 }

@@ -5,6 +5,8 @@ ghost use Rattle.protocol.specs.Machine.{any, is_record, covers};
 use protocol::LockRecord;
 use rules::LockRule;
 
+// The numbers come one by one, as a call has them: a struct of them would be made only to be taken apart here.
+
 // Whether the task has the object in the mode.
 pub fn holds(locks: &[LockRecord], task: u8, object: u8, mode: u8) -> bool
     ensures { result ≡ any (is_record task object mode) locks.now }

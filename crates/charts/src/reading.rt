@@ -1,9 +1,8 @@
 // Reading a plan, and what is kept of it at hand.
-ghost use Rattle.std.specs.Prelude.{◌≡◌, ℕ, ◌<◌, ◌≤◌, length, IfOk, Ok, Err, MatchResult, slice_index_or};
+ghost use Rattle.std.specs.Prelude.{◌≡◌, IfOk, Ok, Err, MatchResult};
 ghost use Rattle.plans.specs.Limits.{Limits};
 ghost use Rattle.plans.specs.Plans.{contents};
 ghost use Rattle.plans.specs.Reading.{read_plan, read_whole};
-ghost use Rattle.charts.specs.Users.{no_object, highest_user};
 
 use crate::chart::Chart;
 use crate::lookups::users_of;
@@ -11,20 +10,20 @@ use crate::planned::Planned;
 use plans::{Plan, Refusal};
 use rules::LockRule;
 
-impl Chart {
-    fn of(plan: Plan) -> Chart
-        requires tasks { length (contents plan).rows ≤ 16 }
-        requires objects { length (contents plan).objects ≤ 32 }
-        requires four { (object : ℕ) → object < length (contents plan).objects → length (slice_index_or (contents plan).objects object no_object).start ≡ 4 }
-        requires past { (object mode : ℕ) → 32 ≤ object → highest_user (contents plan).uses object mode ≡ 16 }
-        ensures { result.plan ≡ plan }
+impl<R: LockRule + Drop> Planned<R> {
+    // The limits are a clause and no ghost field: they go by recursion, so the type would need a proof that all proofs of them are equal.
+    fn of(rule: R, plan: Plan) -> Planned<R>
+        requires { Limits (R.meaning rule) (contents plan) }
+        ensures rule { result.rule ≡ rule }
+        ensures plan { result.chart.plan ≡ plan }
     {
         let users = users_of(plan.uses());
-        Chart { plan, users }
+        Planned {
+            rule,
+            chart: Chart { plan, users },
+        }
     }
-}
 
-impl<R: LockRule + Drop> Planned<R> {
     // The plan at the front of the input, and the input after it.
     pub fn read<'a>(rule: R, input: &'a [u8]) -> Result<(Planned<R>, &'a [u8]), Refusal>
         ensures answer { MatchResult result (λ p. read_plan (R.meaning rule) input.now ≡ Ok (contents p.0.chart.plan, p.1.now)) (λ why. read_plan (R.meaning rule) input.now ≡ Err why) }
@@ -32,8 +31,7 @@ impl<R: LockRule + Drop> Planned<R> {
         ensures limits { IfOk result (λ p. Limits (R.meaning rule) (contents p.0.chart.plan)) }
     {
         let (plan, rest) = Plan::read(&rule, input)?;
-        let chart = Chart::of(plan);
-        Ok((Planned { rule, chart }, rest))
+        Ok((Planned::of(rule, plan), rest))
     }
 
     // The plan, where it is all of the input.
@@ -42,12 +40,8 @@ impl<R: LockRule + Drop> Planned<R> {
         ensures rule { IfOk result (λ p. p.rule ≡ rule) }
         ensures limits { IfOk result (λ p. Limits (R.meaning rule) (contents p.chart.plan)) }
     {
-        let (planned, rest) = Planned::read(rule, input)?;
-        if rest.is_empty() {
-            Ok(planned)
-        } else {
-            Err(Refusal::BytesAfterPlan)
-        }
+        let plan = Plan::read_whole(&rule, input)?;
+        Ok(Planned::of(rule, plan))
     }
 
     // What it was read from: the rule, and the plan with what is kept of it.

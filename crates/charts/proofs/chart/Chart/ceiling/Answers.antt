@@ -1,33 +1,30 @@
--- A mode that clashes may lower the least; any other leaves it.
-use Rattle.std.proofs.Common.{◌≡◌, ℕ, ◌≤◌, min, sym, ◌∙◌, arith}
+-- The ceiling is the smallest of the highest users in the modes that clash.
+use Rattle.std.proofs.Common.{◌≡◌, ℕ, ◌≤◌, min, refl, sym, ◌∙◌, arith, rules, tests}
+use Rattle.std.proofs.lemmas.Iterator.{YieldsList-from_range, YieldsList-from_map}
+use Rattle.std.proofs.lemmas.Iterator.Consumers.{YieldsList-at, YieldsList-from_filter, fold_from_yields_List}
 use Rattle.plans.specs.Plans.{contents}
-use Rattle.charts.proofs.Users.{over_modes, over_le, ceiling_over, clash_more, clash_skip, over_done}
+use Rattle.charts.specs.Users.{highest_user}
+use Rattle.charts.proofs.Users.{over_modes, over_le, least_over, ceiling_over}
 use Rattle.charts.proofs.chart.Chart.ceiling.Goals as goal
-use Rattle.charts.proofs.chart.Chart.ceiling.Goals.{then-clashes, else-clashes}
 
--- nothing below 16 yet, and all is left
-all_left : (n : ℕ) → n ≤ 16 → min 16 n ≡ n
-all_left n low = omega arith
-
-pub loop-wanted-init : goal.loop-wanted-init
-loop-wanted-init g c =
-    let m = g.R.LockRule.meaning c.args.rule.now in
-    let uses = (contents c.args.self.now.plan).uses in
-    (omega arith, all_left (over_modes m uses c.args.object c.args.held 0 8) (over_le m c.args.object c.args.held uses 0 8))
-
-pub loop-wanted-preserved : goal.loop-wanted-preserved
-loop-wanted-preserved g c =
-    let m = g.R.LockRule.meaning c.args.rule.now in
-    let uses = (contents c.args.self.now.plan).uses in
-    let total = over_modes m uses c.args.object c.args.held 0 8 in
-    elim c.if-clashes.branch [
-      | then-clashes w ↦ (omega (arith, w.least-is, w.min-least.ensures, c.loop-wanted.invariant.0), rw (w.least-is, w.min-least.ensures, w.user.ensures) (clash_more m c.args.object c.args.held uses c.loop-wanted.wanted 8 c.loop-wanted.least total c.loop-wanted-test.true c.loop-wanted.invariant.1 (sym w.if-clashes.ensures)))
-      | else-clashes w ↦ (omega (arith, w.least-is, c.loop-wanted.invariant.0), rw w.least-is (clash_skip m c.args.object c.args.held uses c.loop-wanted.wanted 8 c.loop-wanted.least total c.loop-wanted-test.true c.loop-wanted.invariant.1 (sym w.if-clashes.ensures)))
-    ]
+-- there is nothing below 16 at first
+at_most_16 : (n : ℕ) → n ≤ 16 → min 16 n ≡ n
+at_most_16 n low = omega arith
 
 pub returns : goal.returns
 returns g c =
     let m = g.R.LockRule.meaning c.args.rule.now in
     let uses = (contents c.args.self.now.plan).uses in
-    over_done m c.args.object c.args.held uses c.loop-wanted.wanted 8 c.loop-wanted.least (over_modes m uses c.args.object c.args.held 0 8) c.loop-wanted-test.false c.loop-wanted.invariant.0 c.loop-wanted.invariant.1
-    ∙ sym (ceiling_over m c.args.object c.args.held (g.met.R.LockRule.lawful c.args.rule.now) 8 (omega arith) uses)
+    let object = c.args.object in
+    let held = c.args.held in
+    fold_from_yields_List _ min 16 c.fold.result c.fold.ensures.ran
+    (YieldsList-from_map _ (highest_user uses object)
+    (YieldsList-at c.map.ensures.source
+    (YieldsList-from_filter _ (m.clashes held)
+    (YieldsList-at c.filter.ensures.source (YieldsList-from_range 0 8 8 refl refl))
+    c.filter.ensures.closure (λ x b q k. search (rules, tests))))
+    c.map.ensures.closure (λ x r q k. search (rules, tests)))
+    (λ a x b q k. search (rules, tests))
+    ∙ least_over m object held uses 0 8 16 (omega arith)
+    ∙ at_most_16 (over_modes m uses object held 0 8) (over_le m object held uses 0 8)
+    ∙ sym (ceiling_over m object held (g.met.R.LockRule.lawful c.args.rule.now) 8 (omega arith) uses)
