@@ -3,7 +3,7 @@
 
 use manager::{Locked, Manager};
 use plans::Refusal;
-use protocol::{Account, Image, LockRecord};
+use protocol::{Account, CELLS, Image, LockRecord};
 use rules::{LockRule, ReadWrite};
 use std::io;
 use tickets::Ticket;
@@ -64,10 +64,7 @@ fn write_and_close<R: LockRule>(
     }
     match ticket.close(manager) {
         Ok(account) => Ok(Fused::Done(account)),
-        Err(back) => {
-            let (refusal, ticket) = back;
-            Err(give_up(ticket, manager, cells, refusal))
-        }
+        Err((refusal, ticket)) => Err(give_up(ticket, manager, cells, refusal)),
     }
 }
 
@@ -78,8 +75,7 @@ fn give_up<R: LockRule>(
     cells: &mut [i32],
     refusal: Refusal,
 ) -> Refusal {
-    if let Err(back) = ticket.drop_task(manager, cells) {
-        let (_, ticket) = back;
+    if let Err((_, ticket)) = ticket.drop_task(manager, cells) {
         ticket.surrender();
     }
     refusal
@@ -88,15 +84,10 @@ fn give_up<R: LockRule>(
 fn show(rt: &HostRuntime, fused: Result<Fused, Refusal>) -> io::Result<()> {
     match fused {
         Ok(Fused::Done(account)) => {
-            let used = account.used;
-            let lost = account.lost;
-            println!(rt; "fused: used {used}, lost {lost}")
+            println!(rt; "fused: used {}, lost {}", account.used, account.lost)
         }
         Ok(Fused::Waits(holder)) => println!(rt; "fusing waits for task {holder}"),
-        Err(refusal) => {
-            let number = refusal.number();
-            println!(rt; "fusing is refused: {number}")
-        }
+        Err(refusal) => println!(rt; "fusing is refused: {}", refusal.number()),
     }
 }
 
@@ -112,33 +103,18 @@ fn try_fusing<R: LockRule>(
     show(rt, fuse(manager, cells, 915))?;
     show(rt, fuse(manager, cells, 918))?;
     if let Some(course) = cells.get(COURSE as usize) {
-        let course = *course;
         println!(rt; "the course is {course}")?;
     }
     Ok(())
 }
 
 fn run<R: LockRule + Drop>(rt: &HostRuntime, rule: R) -> io::Result<()> {
-    let mut cells = [0i32; 128];
-    let mut locks = [LockRecord {
-        task: 0,
-        object: 0,
-        mode: 0,
-    }; 8];
-    let mut journal = [Image {
-        task: 0,
-        cell: 0,
-        old: 0,
-    }; 8];
+    let mut cells = [0i32; CELLS];
+    let mut locks = [LockRecord::default(); 8];
+    let mut journal = [Image::default(); 8];
     match Manager::make(rule, &PLAN, &mut cells, &mut locks, &mut journal) {
-        Ok(manager) => {
-            let mut manager = manager;
-            try_fusing(rt, &mut manager, &mut cells)
-        }
-        Err(refusal) => {
-            let number = refusal.number();
-            println!(rt; "no manager: {number}")
-        }
+        Ok(mut manager) => try_fusing(rt, &mut manager, &mut cells),
+        Err(refusal) => println!(rt; "no manager: {}", refusal.number()),
     }
 }
 

@@ -1,5 +1,5 @@
 -- Calls make a line longer, and the laws hold of it. Assumes nothing.
-use Rattle.std.proofs.Common.{◌≡◌, ℕ, suc, ◌+◌, ◌<◌, List, [], ◌∷◌, ◌++◌, length, get_or, take, drop, set, sym, refl, ap, ◌∙◌, arith}
+use Rattle.std.proofs.Common.{◌≡◌, ℕ, ◌+◌, ◌<◌, List, [], ◌∷◌, ◌++◌, length, get_or, take, drop, set, refl, ◌∙◌, arith}
 use Rattle.std.proofs.lemmas.List.{append_assoc, take_more, drop_more, length-take-le, set_at}
 use Rattle.rules.specs.Meaning.{Meaning, Lawful}
 use Rattle.protocol.specs.Lines.{Event, Line}
@@ -30,21 +30,19 @@ final_push setup (b ∷ cs) c s = final_push setup cs c (step setup s b).left
 
 answers_push : (setup : Setup) (cs : List Call) (c : Call) (s : State) → answers_to setup s (cs ++ (c ∷ [])) ≡ answers_to setup s cs ++ ((step setup (final setup s cs) c).answer ∷ [])
 answers_push setup [] c s = refl
-answers_push setup (b ∷ cs) c s = ap (λ rest. (step setup s b).answer ∷ rest) (answers_push setup cs c (step setup s b).left)
+answers_push setup (b ∷ cs) c s = rw (answers_push setup cs c (step setup s b).left)
 
 length_answers : (setup : Setup) (cs : List Call) (s : State) → length (answers_to setup s cs) ≡ length cs
 length_answers setup [] s = refl
-length_answers setup (c ∷ cs) s = ap suc (length_answers setup cs (step setup s c).left)
+length_answers setup (c ∷ cs) s = rw (length_answers setup cs (step setup s c).left)
 
 module _ (setup : Setup) (s now : State) (calls : List Call) (i : ℕ) (d : Call) (l : i < length calls) (so_far : now ≡ final setup s (take i calls)) where
   pub final_more : (step setup now (get_or calls i d)).left ≡ final setup s (take (i + 1) calls)
-  final_more = ap (λ t. (step setup t (get_or calls i d)).left) so_far ∙ sym (ap (final setup s) (take_more calls i d l) ∙ final_push setup (take i calls) (get_or calls i d) s)
+  final_more = rw (take_more calls i d l, final_push setup (take i calls) (get_or calls i d) s, so_far)
 
   pub answers_more : (old answers : List Answer) → i < length old → answers ≡ answers_to setup s (take i calls) ++ drop i old → (a : Answer) → a ≡ (step setup now (get_or calls i d)).answer → set answers i a ≡ answers_to setup s (take (i + 1) calls) ++ drop (i + 1) old
   answers_more old answers inside e a said =
       let front = answers_to setup s (take i calls) in
       let long : length front ≡ i = length_answers setup (take i calls) s ∙ length-take-le i calls (omega arith) in
-      let more : answers_to setup s (take (i + 1) calls) ≡ front ++ (a ∷ []) = ap (answers_to setup s) (take_more calls i d l) ∙ answers_push setup (take i calls) (get_or calls i d) s ∙ ap (λ x. front ++ (x ∷ [])) (sym (said ∙ ap (λ t. (step setup t (get_or calls i d)).answer) so_far)) in
-      ap (λ all. set all i a) (e ∙ ap (λ back. front ++ back) (drop_more old i a inside))
-      ∙ set_at front (get_or old i a) (drop (i + 1) old) a i long
-      ∙ sym (ap (λ all. all ++ drop (i + 1) old) more ∙ append_assoc front (a ∷ []) (drop (i + 1) old))
+      let put = set_at front (get_or old i a) (drop (i + 1) old) a i long in
+      rw (e, drop_more old i a inside, put, take_more calls i d l, answers_push setup (take i calls) (get_or calls i d) s, append_assoc front ((step setup (final setup s (take i calls)) (get_or calls i d)).answer ∷ []) (drop (i + 1) old), said, so_far)

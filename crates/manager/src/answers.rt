@@ -1,17 +1,9 @@
-// What calls answer when they are not refused.
+// What a lock answers when it is not refused.
 
-// An accepted lock.
-#[derive(Clone, Copy)]
+// An accepted lock. An Option would be no plainer: its None would have to mean that the lock was granted.
+#[derive(Clone, Copy, Debug, PartialEq, Eq)]
 pub enum Locked {
     Granted,
     // For the task with this number.
     Wait(u8),
-}
-
-// An accepted tick.
-#[derive(Clone, Copy)]
-pub enum Ticked {
-    // The task that ran it.
-    Ran(u8),
-    Idle,
 }

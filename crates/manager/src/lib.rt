@@ -10,6 +10,6 @@ mod manager;
 mod queries;
 mod runner;
 
-pub use answers::{Locked, Ticked};
+pub use answers::Locked;
 pub use charts::Planned;
 pub use manager::Manager;

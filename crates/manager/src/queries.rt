@@ -41,11 +41,7 @@ impl<'a, R: LockRule> Manager<'a, R> {
     pub fn task(&self, task: u8) -> Option<Task>
         ensures { result ≡ (if has_task (setup_of R.meaning self.now) task then Some (task_at self.now.roster.tasks task) else None) }
     {
-        if self.chart.has_task(task) {
-            Some(self.roster.task(task))
-        } else {
-            None
-        }
+        self.chart.has_task(task).then_some(self.roster.task(task))
     }
 
     // The locks that are held, the oldest first.

@@ -1,4 +1,6 @@
 // The words that calls, answers and the manager's memory are put in.
+ghost use Rattle.std.specs.Prelude.{◌≡◌};
+
 use plans::Refusal;
 
 // Four for each of 32 objects.
@@ -79,6 +81,19 @@ pub struct Account {
     pub used: u16,
     pub lost: u16,
     pub lost_to: Option<u8>,
+}
+
+// What is kept of a task, without how it stands.
+impl From<Task> for Account {
+    ghost from_gives = { λ task account. account ≡ record { used = task.used; lost = task.lost; lost_to = task.lost_to } };
+
+    fn from(task: Task) -> Account {
+        Account {
+            used: task.used,
+            lost: task.lost,
+            lost_to: task.lost_to,
+        }
+    }
 }
 
 // What the manager answers.

@@ -1,5 +1,7 @@
 -- One call more is made and answered.
-use Rattle.std.proofs.Common.{◌≡◌, get_or, take, refl, ap, ◌∙◌, arith}
+use Rattle.std.proofs.Common.{◌<◌, get_or, take, length, refl, ap, ◌∙◌, arith, rules}
+use Rattle.std.proofs.lemmas.Grind.{common_steps}
+use Rattle.std.proofs.lemmas.List.{get_or-take}
 use Rattle.protocol.specs.Machine.{step}
 use Rattle.protocol.specs.declared.words.Call.TheVariants.{Arrive}
 use Rattle.manager.specs.View.{setup_of, view}
@@ -11,24 +13,20 @@ loop-i-preserved g c =
     let setup = setup_of g.R.LockRule.meaning c.args.self.now in
     let s = view c.args.self.now c.args.cells.now in
     let here = view c.loop-i.self c.loop-i.cells in
-    let inv = c.loop-i.invariant in
-    let done = c.make_call.ensures in
-    let call = get_or c.args.calls.now c.loop-i.i (Arrive 0) in (
-      done.setup ∙ inv.0,
-      done.state ∙ ap (λ u. (step u here call).left) inv.0 ∙ final_more setup s here c.args.calls.now c.loop-i.i (Arrive 0) (omega arith) inv.1,
-      answers_more setup s here c.args.calls.now c.loop-i.i (Arrive 0) (omega arith) inv.1 c.args.answers.now c.loop-i.answers (omega arith) inv.2 c.make_call.result (done.answer ∙ ap (λ u. (step u here call).answer) inv.0),
-    )
-
-pub returns : goal.returns
-returns g c =
-    let setup = setup_of g.R.LockRule.meaning c.args.self.now in
-    let s = view c.args.self.now c.args.cells.now in
-    let all : c.loop-i.i ≡ c.min-count.result = omega arith in
-    let left = rw all at c.loop-i.invariant.1 in
+    let i = c.loop-i.i in
+    let calls = c.args.calls.now in
+    let inside : i < length calls = grind (arith, common_steps) in
+    let counted : i < c.min.result = grind (arith, common_steps) in
+    let room : i < length c.args.answers.now = grind (arith, common_steps) in
+    let so_far = c.loop-i.invariant in
+    let does = rw (get_or-take c.min.result calls i (Arrive 0) counted) at c.call.ensures.does in
     record {
-      count = c.min-count.ensures;
-      answers = rw all at c.loop-i.invariant.2;
-      state = left;
-      setup = c.loop-i.invariant.0;
-      laws = leads_on_all setup.rule (g.met.R.LockRule.lawful c.args.self.now.rule) setup refl s (view c.loop-i.self c.loop-i.cells) (take c.min-count.result c.args.calls.now) left;
+      keeps = does.keeps ∙ so_far.keeps;
+      leaves = does.leaves ∙ ap (λ u. (step u here (get_or calls i (Arrive 0))).left) so_far.keeps ∙ final_more setup s here calls i (Arrive 0) inside so_far.leaves;
+      answered = answers_more setup s here calls i (Arrive 0) inside so_far.leaves c.args.answers.now c.loop-i.answers room so_far.answered c.call.result (does.answers ∙ ap (λ u. (step u here (get_or calls i (Arrive 0))).answer) so_far.keeps);
     }
+
+pub returns-clause-laws : goal.returns-clause-laws
+returns-clause-laws g c =
+    let setup = setup_of g.R.LockRule.meaning c.args.self.now in
+    leads_on_all setup.rule (g.met.R.LockRule.lawful c.args.self.now.rule) setup refl (view c.args.self.now c.args.cells.now) (view c.loop-i.self c.loop-i.cells) (take (length (take c.min.result c.args.calls.now)) c.args.calls.now) (search rules)
