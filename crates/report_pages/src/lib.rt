@@ -2,5 +2,7 @@
 #![tactic(auto)]
 
 mod reports;
+mod sink;
 
 pub use reports::page_on;
+pub use sink::Sink;
