@@ -1,2 +1,4 @@
 pub mod Reports
 pub mod Sinks
+pub mod Kept
+pub mod Accepted

@@ -10,7 +10,7 @@ use std::fmt;
 use std::fmt::{Formatter, Write};
 
 // A page takes every text, a formatter can fail.
-pub trait Sink {
+pub(crate) trait Sink {
     type Error;
 
     // Relates a sink, a text, and the sink after the text was added to it.
@@ -30,6 +30,19 @@ pub trait Sink {
     ghost nothing: { (sink : Self) → adds sink [] sink };
 
     ghost joins: { (a b c : Self) (s t : List ℕ) → adds a s b → adds b t c → adds a (s ++ t) c };
+
+    final fn add_after(&mut self, words: &str, number: i32) -> Result<(), Self::Error>
+        ensures { OnOk result (adds self.old (words.now ++ signed_decimal number) self.new) }
+    {
+        self.add(words)?;
+        self.add_number(number)
+    }
+
+    final fn add_count(&mut self, words: &str, count: u8) -> Result<(), Self::Error>
+        ensures { OnOk result (adds self.old (words.now ++ decimal count) self.new) }
+    {
+        self.add_after(words, i32::from(count))
+    }
 }
 
 impl Sink for Page {
