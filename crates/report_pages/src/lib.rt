@@ -5,3 +5,4 @@ mod accepted;
 mod reports;
 mod sink;
 
+pub use reports::{Report, page_on};
