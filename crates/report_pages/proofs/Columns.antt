@@ -1,5 +1,5 @@
 -- A number that is printed to the left of a column's width stands as in that column. Assumes nothing.
-use Rattle.std.proofs.Common.{◌≡◌, ℕ, zero, suc, ◌-◌, ◌^◌, false, eqb, List, ◌++◌, length, replicate, decimal, refl, sym, ap, ◌∙◌, arith, lit≤}
+use Rattle.std.proofs.Common.{◌≡◌, ℕ, zero, suc, ◌-◌, ◌^◌, false, eqb, ◌++◌, length, replicate, decimal, refl, sym, ap, ◌∙◌, arith, lit≤}
 use Rattle.std.specs.Fmt.{styled_decimal, padded_integral, char_count, format_spec}
 use Rattle.std.specs.List.{repeat}
 use Rattle.std.proofs.lemmas.Str.{encode_ascii}

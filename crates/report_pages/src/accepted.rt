@@ -7,6 +7,7 @@ ghost use Rattle.report_pages.specs.Kept.{Limits-prop};
 use plans::Plan;
 use rules::NumberedRule;
 
+// It has a file of its own, as the words of `specs/` that its methods promise name it.
 #[derive(Drop)]
 pub(crate) struct Accepted {
     pub(crate) rule: NumberedRule,

@@ -1,5 +1,5 @@
 -- A line more, and at the end all of them.
-use Rattle.std.proofs.Common.{◌≡◌, ℕ, length, ap, arith}
+use Rattle.std.proofs.Common.{◌≡◌, length, ap, arith}
 use Rattle.pages.specs.Pages.{numbered_lines}
 use Rattle.report_pages.specs.Accepted.{rule_of, plan_of}
 use Rattle.report_pages.specs.Reports.{ceiling_line}
