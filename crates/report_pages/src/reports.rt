@@ -1,9 +1,9 @@
 // The report on a rule byte and a plan. docs/REPORT.md shows its form.
 ghost use Rattle.std.specs.Prelude.{◌≡◌, ◌<◌, length, OnOk, MatchResult, Some};
 ghost use Rattle.plans.specs.Ceilings.{ceiling, ceiling_reason, bound, bound_reason};
-ghost use Rattle.pages.specs.Pages.{text_of, numbered_lines};
+ghost use Rattle.pages.specs.Pages.{text_of};
 ghost use Rattle.report_pages.specs.Accepted.{rule_of, plan_of, name_of, accepted_text};
-ghost use Rattle.report_pages.specs.Reports.{values_text, objects_text, ceiling_because, ceiling_line, ceilings_text, lock_text, bound_because, IsThere, ReasonThere, bound_line, bounds_text, refusal_words, refused_text, report_text};
+ghost use Rattle.report_pages.specs.Reports.{values_text, objects_text, ceiling_because, ceiling_line, ceilings_text, bound_because, ReasonThere, bounds_text, refusal_words, refused_text, report_text};
 
 use crate::accepted::Accepted;
 use crate::sink::Sink;
@@ -46,6 +46,7 @@ fn add_ceiling_reason<S: Sink>(sink: &mut S, reason: Option<Use>) -> Result<(), 
     }
 }
 
+// Each table has a loop of its own: a closure for its line, given to one function, would say again what the loop's body promises.
 impl Accepted {
     fn add_objects<S: Sink>(&self, sink: &mut S) -> Result<(), S::Error>
         ensures { OnOk result (S.adds sink.old (objects_text (plan_of self.now).objects) sink.new) }
