@@ -3,8 +3,7 @@
 
 use report_pages::page_on;
 use reports::report_on;
-use std::io;
-use std::io::Write;
+use std::{array, io};
 
 // The read/write rule's byte and the worked plan.
 const HEADING: [u8; 64] = [
@@ -101,28 +100,14 @@ fn use_byte(at: usize) -> u8 {
     }
 }
 
-// The text behind the last line end but one.
-fn last_line(text: &[u8]) -> &[u8] {
-    let mut start = 0;
-    for (at, byte) in text.iter().enumerate() {
-        if *byte == b'\n' && at + 1 < text.len() {
-            start = at + 1;
-        }
-    }
-    text.get(start..).unwrap_or(&[])
-}
-
 fn show_longest(rt: &HostRuntime) -> io::Result<()> {
-    let mut input = [0; LONGEST];
-    for (at, byte) in input.iter_mut().enumerate() {
-        *byte = longest_byte(at);
+    let input: [u8; LONGEST] = array::from_fn(longest_byte);
+    let text = report_on(rt.alloc(), &input)?;
+    println!(rt; "{} bytes, and at their end:", text.len())?;
+    if let Some(line) = text.lines().last() {
+        println!(rt; "{line}")?;
     }
-    let page = page_on(&input);
-    let text = page.as_slice();
-    let length = text.len();
-    println!(rt; "{length} bytes, and at their end:")?;
-    rt.stdout().write_all(last_line(text))?;
-    compare(rt, &input, &report_on(rt.alloc(), &input)?)
+    compare(rt, &input, &text)
 }
 
 // Says so where the report on a page is another than this one.
@@ -149,8 +134,8 @@ fn main(rt: HostRuntime) -> io::Result<()> {
     for (at, value) in CHANGES {
         println!(rt; "byte {at} is {value}")?;
         let mut input = HEADING;
-        if at < input.len() {
-            input[at] = value;
+        if let Some(byte) = input.get_mut(at) {
+            *byte = value;
         }
         show(&rt, &input)?;
     }

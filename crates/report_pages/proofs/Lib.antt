@@ -1,2 +1,4 @@
 pub mod Known
 pub mod Lengths
+mod Columns
+mod Sinks

@@ -1,1 +1,4 @@
 pub mod Reports
+pub mod Sinks
+pub mod Kept
+pub mod Accepted

@@ -1,239 +1,199 @@
 // The report on a rule byte and a plan. docs/REPORT.md shows its form.
-ghost use Rattle.std.specs.Prelude.{◌≡◌, ◌<◌, ◌≤◌, length};
-ghost use Rattle.plans.specs.Limits.{Limits};
-ghost use Rattle.plans.specs.Plans.{contents};
-ghost use Rattle.plans.specs.Reading.{read_whole};
-ghost use Rattle.pages.specs.Pages.{text_of, Added};
-ghost use Rattle.report_pages.specs.Reports.{values_text, object_line, objects_text, ceiling_because, ceiling_line, ceilings_text, lock_text, bound_because, IsThere, ReasonThere, bound_line, bounds_text, plan_text, refusal_words, refused_text, told, text_under, report_text};
-ghost use Rattle.pages.specs.Pages.{numbered_lines};
+ghost use Rattle.std.specs.Prelude.{◌≡◌, ◌<◌, length, OnOk, MatchResult, Some};
+ghost use Rattle.plans.specs.Ceilings.{ceiling, ceiling_reason, bound, bound_reason};
+ghost use Rattle.pages.specs.Pages.{text_of};
+ghost use Rattle.report_pages.specs.Accepted.{rule_of, plan_of, name_of, accepted_text};
+ghost use Rattle.report_pages.specs.Reports.{values_text, objects_text, ceiling_because, ceiling_line, ceilings_text, bound_because, ReasonThere, bounds_text, refusal_words, refused_text, report_text};
 
+use crate::accepted::Accepted;
+use crate::sink::Sink;
 use pages::Page;
-use plans::{Object, Plan, Refusal, Use};
-use rules::{Exclusive, LockRule, ReadWrite};
+use plans::{Bound, Ceiling, Object, Plan, Refusal, Row, Use};
+use rules::{LockRule, NumberedRule};
+use std::fmt;
+use std::fmt::{Formatter, Write};
 
-// A column is as wide as the word above it, so its width below is that word's length.
-
-fn add_values(page: &mut Page, object: Object)
-    ensures { Added page.old (values_text object) page.new }
+fn name(rule: NumberedRule) -> &'static str
+    ensures { result.now ≡ name_of rule }
 {
-    let [a, b, c, d] = object.start;
-    page.add_number(a);
-    page.add(b" ");
-    page.add_number(b);
-    page.add(b" ");
-    page.add_number(c);
-    page.add(b" ");
-    page.add_number(d);
-}
-
-fn add_object(page: &mut Page, objects: &[Object], object: u8)
-    requires { object < length objects.now }
-    ensures { Added page.old (object_line objects.now object) page.new }
-{
-    page.add_column(6, object as u16);
-    add_values(page, objects[object as usize]);
-    page.add(b"\n");
-}
-
-fn add_object_lines(page: &mut Page, objects: &[Object])
-    requires { length objects.now ≤ 32 }
-    ensures { Added page.old (numbered_lines (length objects.now) (object_line objects.now)) page.new }
-{
-    for object in 0..objects.len() as u8 {
-        add_object(page, objects, object);
+    match rule {
+        NumberedRule::Exclusive => "exclusive",
+        NumberedRule::ReadWrite => "read/write",
     }
 }
 
-fn add_objects(page: &mut Page, objects: &[Object])
-    requires { length objects.now ≤ 32 }
-    ensures { Added page.old (objects_text objects.now) page.new }
+fn add_values<S: Sink>(sink: &mut S, object: &Object) -> Result<(), S::Error>
+    ensures { OnOk result (S.adds sink.old (values_text object.now) sink.new) }
 {
-    page.add(b"\nobject  start values\n");
-    add_object_lines(page, objects);
+    let [a, b, c, d] = object.start;
+    sink.add_number(a)?;
+    sink.add_after(" ", b)?;
+    sink.add_after(" ", c)?;
+    sink.add_after(" ", d)
 }
 
 // Why the ceiling is what it is.
-fn add_ceiling_reason(page: &mut Page, reason: Option<Use>)
-    ensures { Added page.old (ceiling_because reason) page.new }
+fn add_ceiling_reason<S: Sink>(sink: &mut S, reason: Option<Use>) -> Result<(), S::Error>
+    ensures { OnOk result (S.adds sink.old (ceiling_because reason) sink.new) }
 {
     match reason {
         Some(u) => {
-            page.add(b"task ");
-            page.add_count(u.task);
-            page.add(b" may want it in mode ");
-            page.add_count(u.mode);
-            page.add(b"\n");
+            sink.add_count("task ", u.task)?;
+            sink.add_count(" may want it in mode ", u.mode)?;
+            sink.add("\n")
         }
-        None => page.add(b"no task wants it in a mode that clashes\n"),
+        None => sink.add("no task wants it in a mode that clashes\n"),
     }
 }
 
-fn add_ceiling<R: LockRule>(page: &mut Page, rule: &R, plan: &Plan, object: u8, mode: u8)
-    requires object { object < length (contents plan.now).objects }
-    requires mode { mode < (R.meaning rule.now).modes }
-    ensures { Added page.old (ceiling_line (R.meaning rule.now) (contents plan.now).uses object mode) page.new }
-{
-    if let Ok(ceiling) = plan.ceiling(rule, object as usize, mode as usize) {
-        page.add_column(6, object as u16);
-        page.add_column(4, mode as u16);
-        page.add_column(7, ceiling.value as u16);
-        add_ceiling_reason(page, ceiling.reason);
+// Each table has a loop of its own: a closure for its line, given to one function, would say again what the loop's body promises.
+impl Accepted {
+    fn add_objects<S: Sink>(&self, sink: &mut S) -> Result<(), S::Error>
+        ensures { OnOk result (S.adds sink.old (objects_text (plan_of self.now).objects) sink.new) }
+    {
+        sink.add("\nobject  start values\n")?;
+        for (number, object) in self.plan.objects().iter().enumerate() {
+            sink.add_column(6, number as u16)?;
+            add_values(sink, object)?;
+            sink.add("\n")?;
+        }
+        Ok(())
     }
-}
 
-fn add_ceilings_of<R: LockRule>(page: &mut Page, rule: &R, plan: &Plan, object: u8)
-    requires { object < length (contents plan.now).objects }
-    ensures { Added page.old (numbered_lines (R.meaning rule.now).modes (ceiling_line (R.meaning rule.now) (contents plan.now).uses object)) page.new }
-{
-    for mode in 0..rule.modes() {
-        add_ceiling(page, rule, plan, object, mode);
+    // The ceiling of an object and a mode that are there.
+    fn ceiling(&self, object: usize, mode: usize) -> Ceiling
+        requires object { object < length (plan_of self.now).objects }
+        requires mode { mode < (rule_of self.now).modes }
+        ensures value { result.value ≡ ceiling (rule_of self.now) (plan_of self.now).uses object mode }
+        ensures reason { result.reason ≡ ceiling_reason (rule_of self.now) (plan_of self.now).uses object mode }
+    {
+        self.plan.ceiling(&self.rule, object, mode).unwrap()
     }
-}
 
-fn add_ceiling_lines<R: LockRule>(page: &mut Page, rule: &R, plan: &Plan)
-    requires { length (contents plan.now).objects ≤ 32 }
-    ensures { Added page.old (numbered_lines (length (contents plan.now).objects) (λ object. numbered_lines (R.meaning rule.now).modes (ceiling_line (R.meaning rule.now) (contents plan.now).uses object))) page.new }
-{
-    for object in 0..plan.objects().len() as u8 {
-        add_ceilings_of(page, rule, plan, object);
+    fn add_ceiling<S: Sink>(&self, sink: &mut S, object: usize, mode: u8) -> Result<(), S::Error>
+        requires object { object < length (plan_of self.now).objects }
+        requires mode { mode < (rule_of self.now).modes }
+        ensures { OnOk result (S.adds sink.old (ceiling_line (rule_of self.now) (plan_of self.now).uses object mode) sink.new) }
+    {
+        let ceiling = self.ceiling(object, usize::from(mode));
+        sink.add_column(6, object as u16)?;
+        sink.add_column(4, u16::from(mode))?;
+        sink.add_column(7, u16::from(ceiling.value))?;
+        add_ceiling_reason(sink, ceiling.reason)
     }
-}
 
-fn add_ceilings<R: LockRule>(page: &mut Page, rule: &R, plan: &Plan)
-    requires { length (contents plan.now).objects ≤ 32 }
-    ensures { Added page.old (ceilings_text (R.meaning rule.now) (contents plan.now)) page.new }
-{
-    page.add(b"\nobject  mode  ceiling  because\n");
-    add_ceiling_lines(page, rule, plan);
-}
-
-// The lock by which the use's task can hold another up.
-fn add_lock<R: LockRule>(page: &mut Page, rule: &R, plan: &Plan, u: Use)
-    requires { IsThere (R.meaning rule.now) (contents plan.now) u }
-    ensures { Added page.old (lock_text (R.meaning rule.now) (contents plan.now).uses u) page.new }
-{
-    if let Ok(ceiling) = plan.ceiling(rule, u.object as usize, u.mode as usize) {
-        page.add(b"task ");
-        page.add_count(u.task);
-        page.add(b" may hold object ");
-        page.add_count(u.object);
-        page.add(b" in mode ");
-        page.add_count(u.mode);
-        page.add(b", ceiling ");
-        page.add_count(ceiling.value);
-        page.add(b"\n");
+    fn add_ceilings<S: Sink>(&self, sink: &mut S) -> Result<(), S::Error>
+        ensures { OnOk result (S.adds sink.old (ceilings_text (rule_of self.now) (plan_of self.now)) sink.new) }
+    {
+        sink.add("\nobject  mode  ceiling  because\n")?;
+        for object in 0..self.plan.objects().len() {
+            for mode in 0..self.rule.modes() {
+                self.add_ceiling(sink, object, mode)?;
+            }
+        }
+        Ok(())
     }
-}
 
-// Why the bound is what it is.
-fn add_bound_reason<R: LockRule>(page: &mut Page, rule: &R, plan: &Plan, reason: Option<Use>)
-    requires { ReasonThere (R.meaning rule.now) (contents plan.now) reason }
-    ensures { Added page.old (bound_because (R.meaning rule.now) (contents plan.now).uses reason) page.new }
-{
-    match reason {
-        Some(u) => add_lock(page, rule, plan, u),
-        None => page.add(b"no lower task can hold it up\n"),
+    // The bound of a task that is there.
+    fn bound(&self, task: usize) -> Bound
+        requires { task < length (plan_of self.now).rows }
+        ensures value { result.value ≡ bound (rule_of self.now) (plan_of self.now) task }
+        ensures reason { result.reason ≡ bound_reason (rule_of self.now) (plan_of self.now) task }
+        ensures there { ReasonThere (rule_of self.now) (plan_of self.now) result.reason }
+    {
+        self.plan.bound(&self.rule, task).unwrap()
     }
-}
 
-fn add_bound<R: LockRule>(page: &mut Page, rule: &R, plan: &Plan, task: u8)
-    requires limits { Limits (R.meaning rule.now) (contents plan.now) }
-    requires task { task < length (contents plan.now).rows }
-    ensures { Added page.old (bound_line (R.meaning rule.now) (contents plan.now) task) page.new }
-{
-    let row = plan.rows()[task as usize];
-    if let Ok(bound) = plan.bound(rule, task as usize) {
-        page.add_column(4, task as u16);
-        page.add_column(6, row.period);
-        page.add_column(6, row.budget);
-        page.add_column(5, bound.value);
-        add_bound_reason(page, rule, plan, bound.reason);
+    // Why the bound is what it is: the lock by which a lower task can hold the task up.
+    fn add_bound_reason<S: Sink>(&self, sink: &mut S, reason: Option<Use>) -> Result<(), S::Error>
+        requires { ReasonThere (rule_of self.now) (plan_of self.now) reason }
+        ensures { OnOk result (S.adds sink.old (bound_because (rule_of self.now) (plan_of self.now).uses reason) sink.new) }
+    {
+        match reason {
+            Some(u) => {
+                let ceiling = self.ceiling(usize::from(u.object), usize::from(u.mode));
+                sink.add_count("task ", u.task)?;
+                sink.add_count(" may hold object ", u.object)?;
+                sink.add_count(" in mode ", u.mode)?;
+                sink.add_count(", ceiling ", ceiling.value)?;
+                sink.add("\n")
+            }
+            None => sink.add("no lower task can hold it up\n"),
+        }
     }
-}
 
-fn add_bound_lines<R: LockRule>(page: &mut Page, rule: &R, plan: &Plan)
-    requires { Limits (R.meaning rule.now) (contents plan.now) }
-    ensures { Added page.old (numbered_lines (length (contents plan.now).rows) (bound_line (R.meaning rule.now) (contents plan.now))) page.new }
-{
-    for task in 0..plan.rows().len() as u8 {
-        add_bound(page, rule, plan, task);
+    fn add_bounds<S: Sink>(&self, sink: &mut S) -> Result<(), S::Error>
+        ensures { OnOk result (S.adds sink.old (bounds_text (rule_of self.now) (plan_of self.now)) sink.new) }
+    {
+        sink.add("\ntask  period  budget  bound  because\n")?;
+        for (task, row) in self.plan.rows().iter().enumerate() {
+            let bound = self.bound(task);
+            sink.add_column(4, task as u16)?;
+            sink.add_column(6, row.period)?;
+            sink.add_column(6, row.budget)?;
+            sink.add_column(5, bound.value)?;
+            self.add_bound_reason(sink, bound.reason)?;
+        }
+        Ok(())
     }
-}
 
-fn add_bounds<R: LockRule>(page: &mut Page, rule: &R, plan: &Plan)
-    requires { Limits (R.meaning rule.now) (contents plan.now) }
-    ensures { Added page.old (bounds_text (R.meaning rule.now) (contents plan.now)) page.new }
-{
-    page.add(b"\ntask  period  budget  bound  because\n");
-    add_bound_lines(page, rule, plan);
-}
+    // The rule's name and the three tables.
+    fn add_to<S: Sink>(&self, sink: &mut S) -> Result<(), S::Error>
+        ensures { OnOk result (S.adds sink.old (accepted_text self.now) sink.new) }
+    {
+        sink.add("rule: ")?;
+        sink.add(name(self.rule))?;
+        sink.add("\n")?;
+        self.add_objects(sink)?;
+        self.add_ceilings(sink)?;
+        self.add_bounds(sink)
+    }
 
-// The rule's name and the three tables.
-fn add_plan<R: LockRule>(page: &mut Page, rule: &R, name: &[u8], plan: &Plan)
-    requires { Limits (R.meaning rule.now) (contents plan.now) }
-    ensures { Added page.old (plan_text (R.meaning rule.now) name.now (contents plan.now)) page.new }
-{
-    page.add(b"rule: ");
-    page.add(name);
-    page.add(b"\n");
-    add_objects(page, plan.objects());
-    add_ceilings(page, rule, plan);
-    add_bounds(page, rule, plan);
+    fn read(input: &[u8]) -> Result<Accepted, Refusal>
+        ensures { MatchResult result (λ accepted. report_text input.now ≡ accepted_text accepted) (λ why. report_text input.now ≡ refused_text why) }
+    {
+        let [number, bytes @ ..] = input else {
+            return Err(Refusal::NumberNotThere);
+        };
+        let rule = NumberedRule::try_from(i64::from(*number))?;
+        let plan = Plan::read_whole(&rule, bytes)?;
+        Ok(Accepted { rule, plan })
+    }
 }
 
 // What a refusal of a rule or a plan means.
-fn refusal_words(refusal: Refusal) -> &'static [u8]
+fn refusal_words(refusal: Refusal) -> &'static str
     ensures { result.now ≡ refusal_words refusal }
 {
     match refusal {
-        Refusal::PlanEnds => b"the plan ends before its last section does",
-        Refusal::CountOutOfLimits => b"a count is outside its limits",
-        Refusal::BadRow => b"a period or a budget is 0, or a budget is above its period",
-        Refusal::PeriodFalls => b"a period is smaller than that of the row before",
-        Refusal::UseNotThere => b"a use names a task, an object or a mode that is not there",
-        Refusal::UseAgain => b"the same use stands twice",
-        Refusal::BytesAfterPlan => b"there are bytes after the plan",
-        Refusal::NumberNotThere => b"there is no such rule",
+        Refusal::PlanEnds => "the plan ends before its last section does",
+        Refusal::CountOutOfLimits => "a count is outside its limits",
+        Refusal::BadRow => "a period or a budget is 0, or a budget is above its period",
+        Refusal::PeriodFalls => "a period is smaller than that of the row before",
+        Refusal::UseNotThere => "a use names a task, an object or a mode that is not there",
+        Refusal::UseAgain => "the same use stands twice",
+        Refusal::BytesAfterPlan => "there are bytes after the plan",
+        Refusal::NumberNotThere => "there is no such rule",
         // The other refusals are of calls, tapes and sheets.
-        _ => b"not a fault of a plan",
+        _ => "not a fault of a plan",
     }
 }
 
-fn add_refused(page: &mut Page, refusal: Refusal)
-    ensures { Added page.old (refused_text refusal) page.new }
+fn add_refused<S: Sink>(sink: &mut S, refusal: Refusal) -> Result<(), S::Error>
+    ensures { OnOk result (S.adds sink.old (refused_text refusal) sink.new) }
 {
-    page.add(b"refused ");
-    page.add_count(refusal.number());
-    page.add(b": ");
-    page.add(refusal_words(refusal));
-    page.add(b"\n");
+    sink.add_count("refused ", refusal.number())?;
+    sink.add(": ")?;
+    sink.add(refusal_words(refusal))?;
+    sink.add("\n")
 }
 
-fn add_under<R: LockRule>(page: &mut Page, rule: &R, name: &[u8], bytes: &[u8])
-    ensures { Added page.old (told (R.meaning rule.now) name.now (read_whole (R.meaning rule.now) bytes.now)) page.new }
+fn add_report<S: Sink>(sink: &mut S, input: &[u8]) -> Result<(), S::Error>
+    ensures { OnOk result (S.adds sink.old (report_text input.now) sink.new) }
 {
-    match Plan::read_whole(rule, bytes) {
-        Ok(plan) => add_plan(page, rule, name, &plan),
-        Err(refusal) => add_refused(page, refusal),
-    }
-}
-
-fn add_by_number(page: &mut Page, number: u8, bytes: &[u8])
-    ensures { Added page.old (text_under number bytes.now) page.new }
-{
-    match number {
-        1 => add_under(page, &Exclusive, b"exclusive", bytes),
-        2 => add_under(page, &ReadWrite, b"read/write", bytes),
-        _ => add_refused(page, Refusal::NumberNotThere),
-    }
-}
-
-fn add_report(page: &mut Page, input: &[u8])
-    ensures { Added page.old (report_text input.now) page.new }
-{
-    match input {
-        [] => add_refused(page, Refusal::NumberNotThere),
-        [number, bytes @ ..] => add_by_number(page, *number, bytes),
+    match Accepted::read(input) {
+        Ok(accepted) => accepted.add_to(sink),
+        Err(refusal) => add_refused(sink, refusal),
     }
 }
 
@@ -242,6 +202,20 @@ pub fn page_on(input: &[u8]) -> Page
     ensures { text_of result ≡ report_text input.now }
 {
     let mut page = Page::empty();
-    add_report(&mut page, input);
+    let Ok(()) = add_report(&mut page, input);
     page
+}
+
+// The same, to be printed.
+#[derive(Clone, Copy)]
+pub struct Report<'a> {
+    pub input: &'a [u8],
+}
+
+impl fmt::Display for Report<'_> {
+    ghost output = { λ report. Some (report_text report.input.now) };
+
+    fn fmt<W: Write>(&self, f: &mut Formatter<W>) -> fmt::Result {
+        add_report(f, self.input)
+    }
 }

@@ -1,7 +1,11 @@
 -- The parts of the line, one after the other.
-use Rattle.pages.proofs.Adding.{adds_then}
+use Rattle.std.proofs.lemmas.Result.{on_ok_weaker}
+use Rattle.report_pages.proofs.Sinks.{then}
 use Rattle.report_pages.proofs.reports.add_refused.Goals as goal
 
 pub returns : goal.returns
-returns c =
-    adds_then c.add.ensures (adds_then (rw c.number.ensures at c.add_count.ensures) (adds_then c.add-2.ensures (adds_then (rw c.refusal_words.ensures at c.add-3.ensures) c.add-4.ensures)))
+returns g c =
+    let joins = g.met.S.Sink.joins in
+    let count = rw c.number.ensures at c.in_ok-add_count.ensures in
+    let words = rw c.refusal_words.ensures at c.in_ok-add-2.ensures in
+    on_ok_weaker c.add-3.result (λ end. then joins count (then joins c.in_ok-add.ensures (then joins words end))) c.add-3.ensures

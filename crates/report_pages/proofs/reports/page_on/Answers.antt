@@ -7,5 +7,5 @@ use Rattle.report_pages.proofs.reports.page_on.Goals as goal
 
 pub returns : goal.returns
 returns c =
-    let input = c.args.input.now in
-    c.add_report.ensures.says ∙ ap (λ text. take 8192 (text ++ report_text input)) c.empty-page.ensures ∙ take_all 8192 (report_text input) (report_fits input (λ i. (c.type_inv.input i).fits))
+    let text = report_text c.args.input.now in
+    c.in-Ok.ensures.says ∙ ap (λ page. take 8192 (page ++ text)) c.empty-page.ensures ∙ take_all 8192 text (report_fits c.args.input.now (λ i. (c.type_inv.input i).fits))

@@ -1,6 +1,0 @@
--- The heading, then the lines.
-use Rattle.pages.proofs.Adding.{adds_then}
-use Rattle.report_pages.proofs.reports.add_objects.Goals as goal
-
-pub returns : goal.returns
-returns c = adds_then c.add.ensures c.add_object_lines.ensures
