@@ -1,5 +1,5 @@
 -- Results of calls with a ticket as answers, and what becomes of the ticket. Assumes nothing.
-use Rattle.std.specs.Prelude.{◌≡◌, ℕ, IfOk, IfErr, Ok, Err, Result}
+use Rattle.std.specs.Prelude.{◌≡◌, ℕ, false, IfOk, IfErr, Ok, Err, Result}
 use Rattle.plans.specs.declared.refusal.Refusal.{Refusal}
 use Rattle.protocol.specs.declared.words.Account.{Account}
 use Rattle.protocol.specs.declared.words.Answer.{Answer}
@@ -7,9 +7,10 @@ use Rattle.protocol.specs.declared.words.Answer.TheVariants.{Open, Closed, Dropp
 use Rattle.manager.specs.View.{answer_by}
 use Rattle.tickets.specs.declared.ticket.Ticket.{Ticket}
 
--- a ticket of this task; that it is there says that it is still to be spent, since nothing but a spending call takes it
-abbrev pub TicketOf : ℕ → Ticket → Type 0
-TicketOf task t = t.task ≡ task
+-- a ticket of this task, which is still to be spent
+pub record TicketOf (task : ℕ) (t : Ticket) : Type 0 where
+  pub own : t.task ≡ task
+  pub unspent : t.spent ≡ false
 
 abbrev pub arrive_answer : Result Ticket Refusal → Answer
 arrive_answer = answer_by (λ ticket. Open)

@@ -17,7 +17,7 @@ impl Ticket {
         ensures ticket { Given task result }
     {
         manager.arrive(task)?;
-        Ok(Ticket { task })
+        Ok(Ticket { task, spent: false })
     }
 
     // The task that it is a ticket of.
@@ -95,8 +95,13 @@ impl Ticket {
     pub fn surrender(self) -> u8
         ensures { result ≡ self.task }
     {
-        let Ticket { task } = self;
+        let task = self.task;
+        self.spend();
         task
+    }
+
+    fn spend(mut self) {
+        self.spent = true;
     }
 
     // A call that was accepted ends the ticket; one that was refused gives it back.
@@ -105,8 +110,7 @@ impl Ticket {
     {
         match called {
             Ok(account) => {
-                // A ticket has no `Drop`, so it ends here.
-                let Ticket { task: _ } = self;
+                self.spend();
                 Ok(account)
             }
             Err(refusal) => Err((refusal, self)),
