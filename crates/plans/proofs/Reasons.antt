@@ -110,7 +110,7 @@ module _ (m : Meaning) (object held : ℕ) where
   ceiling_is [] = refl
   ceiling_is (u ∷ us) = ap (λ rest. cond (excluded m object held u) (min u.task rest) rest) (ceiling_is us)
 
-  ceiling_le : (us : List Use) → ceiling m us object held ≤ 16
+  pub ceiling_le : (us : List Use) → ceiling m us object held ≤ 16
   ceiling_le [] = omega arith
   ceiling_le (u ∷ us) = elim (excluded m object held u) as (λ b. cond b (min u.task (ceiling m us object held)) (ceiling m us object held) ≤ 16) [ true ↦ omega (arith, ceiling_le us) | false ↦ ceiling_le us ]
 
