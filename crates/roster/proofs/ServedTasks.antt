@@ -1,4 +1,4 @@
--- Places and the served word: one task more, and what a place names. Assumes nothing.
+-- Places and the served word: the first that waits, what a place names, and the bits added up. Assumes nothing.
 use Rattle.std.proofs.Common.{◌≡◌, ℕ, suc, ◌+◌, ◌*◌, ◌%◌, ◌^◌, ◌<◌, ◌≤◌, min, Bool, true, false, cond, ◌&&◌, eqb, List, [], ◌∷◌, length, ltb, Some, None, Option, filter, zero, sym, refl, ap, ◌∙◌, inl, inr, mod-eq_of_lt, pow-suc, add-one, arith}
 use lib.Count.{count_trailing_zeros, trailing_of_zero}
 use lib.Pow.{pow-lt}
@@ -46,14 +46,22 @@ place_of_named tasks whole k = elim (cases_Bool (has_place tasks k 0 tasks)) [
     not_both : {x y : Bool} → (x ≡ true → y ≡ true → ⊥) → (x && y) ≡ false
     not_both {x} {y} no_way = elim (cases_Bool (x && y)) [ inr e ↦ e | inl e ↦ absurd (no_way (and_parts x y e).0 (and_parts x y e).1) ]
 
--- the bits of the places from k on, n of them, as they are added up
-pub served_sum : (tasks : List Task) (k n : ℕ) → k + n ≤ 16 → sum_by (λ p. 1 * 2 ^ p % 65536) (filter (λ p. has_place tasks p 0 tasks) (range_with_len k n)) ≡ served_from tasks k n
+-- of n numbers from k on, the places of ready tasks
+abbrev pub places : List Task → ℕ → ℕ → List ℕ
+places tasks k n = filter (λ p. has_place tasks p 0 tasks) (range_with_len k n)
+
+-- 1 shifted by the place, in 16 bits
+abbrev pub bit : ℕ → ℕ
+bit p = 1 * 2 ^ p % 65536
+
+-- their bits, added up
+pub served_sum : (tasks : List Task) (k n : ℕ) → k + n ≤ 16 → sum_by bit (places tasks k n) ≡ served_from tasks k n
 served_sum tasks k zero l = refl
 served_sum tasks k (suc n) l =
-    let fits : 1 * 2 ^ k % 65536 ≡ 2 ^ k = mod-eq_of_lt (omega (arith, pow-lt {i = k} {j = 16} (omega arith))) ∙ omega arith in
+    let fits : bit k ≡ 2 ^ k = mod-eq_of_lt (omega (arith, pow-lt {i = k} {j = 16} (omega arith))) ∙ omega arith in
     let rest = rw add-one at (served_sum tasks (k + 1) n (omega arith)) in
     elim (cases_Bool (has_place tasks k 0 tasks)) [
-      | inl had ↦ rw (had, add-one) (omega (arith, fits, rest, sum_by-cons (λ p. 1 * 2 ^ p % 65536) k (filter (λ p. has_place tasks p 0 tasks) (range_with_len (suc k) n))))
+      | inl had ↦ rw (had, add-one) (omega (arith, fits, rest, sum_by-cons bit k (places tasks (suc k) n)))
       | inr none ↦ rw (none, add-one) (omega (arith, rest))
     ]
 

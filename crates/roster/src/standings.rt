@@ -62,6 +62,7 @@ impl Roster {
     pub fn running(&self) -> Option<u8>
         ensures { result ≡ running (tasks_of self.now) }
     {
+        // With no bit set it is 16, and no task has that number.
         let place = self.served().trailing_zeros() as u8;
         self.tasks
             .get(usize::from(place))

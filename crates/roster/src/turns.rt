@@ -28,12 +28,12 @@ fn after_tick(running: u8, k: usize, t: Task) -> Task
     requires { k ≡ running → t.used < 65535 }
     ensures { result ≡ ticked running k t }
 {
-    if k == running as usize {
+    if k == usize::from(running) {
         Task {
             used: t.used + 1,
             ..t
         }
-    } else if k < running as usize && t.standing != Standing::Resting {
+    } else if k < usize::from(running) && t.standing != Standing::Resting {
         Task {
             lost: t.lost.saturating_add(1),
             lost_to: Some(running),

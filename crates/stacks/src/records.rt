@@ -5,6 +5,7 @@ ghost use Rattle.protocol.specs.Machine.{put_back, own_image};
 use crate::stack::Owned;
 use protocol::{Image, LockRecord};
 
+// An impl for each kind: it names the field, which is all that differs, and the gate takes no impl from a macro of ours.
 impl Owned for LockRecord {
     ghost owner = { λ r. r.task };
 
