@@ -9,7 +9,7 @@ use crate::lines::read_line;
 use protocol::Call;
 
 // What a tape line says.
-#[derive(Clone, Copy)]
+#[derive(Clone, Copy, Debug, PartialEq, Eq)]
 pub enum Item<'a> {
     Call(Call),
     // A line that is no call, and the number of tape bytes before it.
@@ -28,12 +28,10 @@ fn line_length(bytes: &[u8]) -> usize
     ensures line { result ≡ line_length bytes.now }
     ensures within { result ≤ length bytes.now }
 {
-    for (i, byte) in bytes.iter().enumerate() {
-        if *byte == b'\n' {
-            return i;
-        }
-    }
-    bytes.len()
+    bytes
+        .iter()
+        .position(|byte| *byte == b'\n')
+        .unwrap_or(bytes.len())
 }
 
 fn item_of(line: &[u8], place: usize) -> Item<'_>
@@ -71,7 +69,7 @@ impl<'a> Iterator for Tape<'a> {
         let end = place + line_length(&bytes[place..]);
         let line = &bytes[place..end];
         // The last line may lack its end.
-        self.place = if end < bytes.len() { end + 1 } else { end };
+        self.place = bytes.len().min(end + 1);
         Some(item_of(line, place))
     }
 }
