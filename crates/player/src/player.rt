@@ -1,5 +1,6 @@
 // Playing a tape after its plan onto a sheet. docs/TAPE.md has the format.
-ghost use Rattle.std.specs.Prelude.{◌≡◌, ◌*◌, ◌≤◌, length, MatchResult};
+ghost use Rattle.std.specs.Prelude.{◌≡◌, ◌*◌, ◌≤◌, ◌==◌, length, MatchResult};
+ghost use Rattle.std.specs.List.{count_by};
 ghost use Rattle.plans.specs.Limits.{Limits};
 ghost use Rattle.plans.specs.Plans.{contents};
 ghost use Rattle.manager.specs.View.{setup_of, view};
@@ -11,7 +12,7 @@ ghost use Rattle.player.specs.Playing.{outcome, play_sheet, play_state, tape_she
 use charts::Planned;
 use manager::Manager;
 use plans::Refusal;
-use protocol::{Answer, Image, LockRecord};
+use protocol::{Answer, CELLS, Image, LockRecord};
 use rules::LockRule;
 use sheets::{MOST_LINE, write_line};
 use tape::{Item, Tape};
@@ -24,21 +25,23 @@ const MOST_LINES: usize = 1_000;
 const LOCKS: usize = 64;
 // The images that it lends it.
 const IMAGES: usize = 64;
-// Four for each of 32 objects.
-const CELLS: usize = 128;
 
+fn count_ends(tape: &[u8]) -> usize
+    ensures { result ≡ count_by (λ byte. byte == 10) tape.now }
+{
+    tape.iter().filter(|byte| **byte == b'\n').count()
+}
+
+#[tactic(auto, using(crate::proofs::Counting::count_open, crate::proofs::Counting::count_closed))]
 fn count_lines(tape: &[u8]) -> usize
     ensures { result ≡ length (lines tape.now) }
 {
-    let mut count = 0;
-    let mut begins = true;
-    for byte in tape {
-        if begins {
-            count += 1;
-        }
-        begins = *byte == b'\n';
+    let ends = count_ends(tape);
+    match tape {
+        // The last line may lack its end.
+        [.., last] if *last != b'\n' => ends + 1,
+        _ => ends,
     }
-    count
 }
 
 // An unreadable line is answered by a refusal, and makes no call.
@@ -83,16 +86,8 @@ fn play_tape<R: LockRule + Drop>(
     ensures { MatchResult result (λ n. Put sheet.old 0 (tape_sheet (R.meaning planned.rule) (contents planned.chart.plan) tape.now) sheet.new n) (λ _. ⊥) }
 {
     let mut cells = [0; CELLS];
-    let mut locks = [LockRecord {
-        task: 0,
-        object: 0,
-        mode: 0,
-    }; LOCKS];
-    let mut journal = [Image {
-        task: 0,
-        cell: 0,
-        old: 0,
-    }; IMAGES];
+    let mut locks = [LockRecord::default(); LOCKS];
+    let mut journal = [Image::default(); IMAGES];
     let mut manager = Manager::make_from(planned, &mut cells, &mut locks, &mut journal)?;
     play_lines(&mut manager, &mut cells, tape, sheet)
 }

@@ -58,7 +58,7 @@ module _ (bytes : List ℕ) (place end : ℕ) (inside : place < length bytes) (e
       ap (entries place) (split ∙ ap (λ more. line ∷ more) none) ∙ ap (λ more. said line place (read_line line) ∷ entries end more) (sym none_here)
 
 -- the tape is not empty, so it has a line
-some_line : (bytes : List ℕ) → 0 < length bytes → 0 < length (lines bytes)
+pub some_line : (bytes : List ℕ) → 0 < length bytes → 0 < length (lines bytes)
 some_line bytes some = omega (arith, ap length (first_line bytes some))
 
 abbrev with_ends : List (List ℕ) → List ℕ
@@ -69,10 +69,10 @@ with_ends_onto byte [] some = absurd (omega arith)
 with_ends_onto byte (first ∷ more) some = refl
 
 -- the last byte stays the last
-lacks_is : (tape : List ℕ) → 0 < length tape → lacks_end tape ≡ not (eqb (get_or tape (length tape - 1) 0) 10)
+pub lacks_is : (tape : List ℕ) → 0 < length tape → lacks_end tape ≡ not (eqb (get_or tape (length tape - 1) 0) 10)
 lacks_is tape h = rw (lt-ltb 0 (length tape) h)
 
-lacks_same : (byte next : ℕ) (tape : List ℕ) → lacks_end (byte ∷ (next ∷ tape)) ≡ lacks_end (next ∷ tape)
+pub lacks_same : (byte next : ℕ) (tape : List ℕ) → lacks_end (byte ∷ (next ∷ tape)) ≡ lacks_end (next ∷ tape)
 lacks_same byte next tape =
     let last : length (byte ∷ (next ∷ tape)) - 1 ≡ suc (length (next ∷ tape) - 1) = omega arith in
     lacks_is (byte ∷ (next ∷ tape)) (omega arith) ∙ ap (λ n. not (eqb (get_or (byte ∷ (next ∷ tape)) n 0) 10)) last ∙ sym (lacks_is (next ∷ tape) (omega arith))
