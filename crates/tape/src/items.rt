@@ -1,19 +1,17 @@
-// The items of a tape, line by line: a call, or a line that is none. What a line means is in `lines`.
+// The lines of a tape, one by one: a call, or a line that is none. What a line means is in `lines`.
 ghost use Rattle.std.specs.Prelude.{◌≡◌, ◌≤◌, length};
-ghost use Rattle.tape.specs.Lines.{read_line};
-ghost use Rattle.tape.specs.Tapes.{line_length, lines, said, entries, Splits};
-ghost use Rattle.tape.specs.Items.{entry, to_come, bytes_left, Steps};
+ghost use Rattle.tape.specs.Tapes.{line_length, lines, entries, Splits};
+ghost use Rattle.tape.specs.Items.{to_come, bytes_left, Steps};
 ghost use Rattle.std.specs.Iterator.{at_most};
 
 use crate::lines::read_line;
 use protocol::Call;
 
-// What a tape line says.
+// A line that is no call, and the number of tape bytes before it.
 #[derive(Clone, Copy, Debug, PartialEq, Eq)]
-pub enum Item<'a> {
-    Call(Call),
-    // A line that is no call, and the number of tape bytes before it.
-    Unreadable { line: &'a [u8], place: usize },
+pub struct Unreadable<'a> {
+    pub line: &'a [u8],
+    pub place: usize,
 }
 
 // A tape, and the place from which it is still to be read.
@@ -34,15 +32,6 @@ fn line_length(bytes: &[u8]) -> usize
         .unwrap_or(bytes.len())
 }
 
-fn item_of(line: &[u8], place: usize) -> Item<'_>
-    ensures { entry result ≡ said line.now place (read_line line.now) }
-{
-    match read_line(line) {
-        Some(call) => Item::Call(call),
-        None => Item::Unreadable { line, place },
-    }
-}
-
 impl<'a> Tape<'a> {
     pub fn new(bytes: &'a [u8]) -> Tape<'a>
         ensures entries { to_come result ≡ entries 0 (lines bytes.now) }
@@ -54,13 +43,13 @@ impl<'a> Tape<'a> {
 }
 
 impl<'a> Iterator for Tape<'a> {
-    type Item = Item<'a>;
+    type Item = Result<Call, Unreadable<'a>>;
 
     ghost next_gives = { Steps };
 
     ghost remaining = { λ s. at_most (bytes_left s) };
 
-    fn next(&mut self) -> Option<Item<'a>> {
+    fn next(&mut self) -> Option<Result<Call, Unreadable<'a>>> {
         let bytes: &'a [u8] = self.bytes;
         let place = self.place;
         if place >= bytes.len() {
@@ -70,6 +59,6 @@ impl<'a> Iterator for Tape<'a> {
         let line = &bytes[place..end];
         // The last line may lack its end.
         self.place = bytes.len().min(end + 1);
-        Some(item_of(line, place))
+        Some(read_line(line).ok_or(Unreadable { line, place }))
     }
 }
