@@ -1,6 +1,7 @@
 -- The laws hold of the line of calls that a tape makes, and what is played or refused. Assumes nothing.
 use Rattle.std.proofs.Common.{◌≡◌, ℕ, ◌*◌, ◌<◌, ◌≤◌, cond, ltb, List, [], ◌∷◌, length, take, replicate, ℤ, pos, Ok, Err, Result, sym, refl, ap, ◌∙◌, subst, arith, MatchResult}
 use lib.ListN.{length-replicate}
+use Rattle.std.proofs.lemmas.List.{length-append}
 use Rattle.std.proofs.lemmas.Bool.{cond-true, cond-false, lt-ltb, le-ltb}
 use Rattle.rules.specs.Meaning.{Meaning, Lawful}
 use Rattle.plans.specs.Contents.{Contents}
@@ -70,3 +71,8 @@ plays_done o text before after (Err why) e never = absurd never
 -- the laws hold of what is played under a lawful rule
 pub laws_of : (m : Meaning) → Lawful m → (input : List ℕ) → Bytes input → PlayLaws m input
 laws_of m lawful input are = play_laws m input (laws_hold m lawful) (accepted_exactly m input are)
+
+-- what was written is no longer than the sheet
+pub plays_within : (o : Result (List ℕ) Refusal) (before after : List ℕ) (n : ℕ) → Plays o before after (Ok n) → n ≤ length after
+plays_within (Ok text) before after n put = omega (arith, put.behind, ap length put.bytes ∙ length-append text _)
+plays_within (Err why) before after n never = absurd never

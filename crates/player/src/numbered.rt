@@ -5,16 +5,12 @@ ghost use Rattle.player.specs.Playing.{Plays};
 
 use crate::player::play;
 use plans::Refusal;
-use rules::{Exclusive, ReadWrite};
+use rules::NumberedRule;
 
 // Plays the tape under rule 1, exclusive, or 2, read/write.
 pub fn play_numbered(rule: i64, input: &[u8], sheet: &mut [u8]) -> Result<usize, Refusal>
     ensures sheet { Plays (play_numbered rule input.now (length sheet.old)) sheet.old sheet.new result }
     ensures laws { NumberedLaws rule input.now }
 {
-    match rule {
-        1 => play(Exclusive, input, sheet),
-        2 => play(ReadWrite, input, sheet),
-        _ => Err(Refusal::NumberNotThere),
-    }
+    play(NumberedRule::try_from(rule)?, input, sheet)
 }

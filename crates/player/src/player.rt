@@ -1,5 +1,6 @@
 // Playing a tape after its plan onto a sheet. docs/TAPE.md has the format.
-ghost use Rattle.std.specs.Prelude.{◌≡◌, ◌*◌, ◌≤◌, length, MatchResult};
+ghost use Rattle.std.specs.Prelude.{◌≡◌, ◌*◌, ◌≤◌, ◌==◌, length, MatchResult};
+ghost use Rattle.std.specs.List.{count_by};
 ghost use Rattle.plans.specs.Limits.{Limits};
 ghost use Rattle.plans.specs.Plans.{contents};
 ghost use Rattle.manager.specs.View.{setup_of, view};
@@ -11,10 +12,10 @@ ghost use Rattle.player.specs.Playing.{outcome, play_sheet, play_state, tape_she
 use charts::Planned;
 use manager::Manager;
 use plans::Refusal;
-use protocol::{Answer, Image, LockRecord};
+use protocol::{Answer, CELLS, Call, Image, LockRecord};
 use rules::LockRule;
 use sheets::{MOST_LINE, write_line};
-use tape::{Item, Tape};
+use tape::{Tape, Unreadable};
 
 // What one input may hold, so that a controller's buffer for it has a fixed size.
 const MOST_INPUT: usize = 60_000;
@@ -24,32 +25,38 @@ const MOST_LINES: usize = 1_000;
 const LOCKS: usize = 64;
 // The images that it lends it.
 const IMAGES: usize = 64;
-// Four for each of 32 objects.
-const CELLS: usize = 128;
 
+fn count_ends(tape: &[u8]) -> usize
+    ensures { result ≡ count_by (λ byte. byte == 10) tape.now }
+{
+    tape.iter().filter(|byte| **byte == b'\n').count()
+}
+
+#[tactic(auto, using(crate::proofs::Counting::count_open, crate::proofs::Counting::count_closed))]
 fn count_lines(tape: &[u8]) -> usize
     ensures { result ≡ length (lines tape.now) }
 {
-    let mut count = 0;
-    let mut begins = true;
-    for byte in tape {
-        if begins {
-            count += 1;
-        }
-        begins = *byte == b'\n';
+    let ends = count_ends(tape);
+    match tape {
+        // The last line may lack its end.
+        [.., last] if *last != b'\n' => ends + 1,
+        _ => ends,
     }
-    count
 }
 
 // An unreadable line is answered by a refusal, and makes no call.
-fn play_item<R: LockRule>(manager: &mut Manager<'_, R>, cells: &mut [i32], item: Item<'_>) -> Answer
+fn play_item<R: LockRule>(
+    manager: &mut Manager<'_, R>,
+    cells: &mut [i32],
+    item: Result<Call, Unreadable<'_>>,
+) -> Answer
     ensures answer { result ≡ (outcome (setup_of R.meaning manager.old) (view manager.old cells.old) (entry item.entry)).answer }
     ensures state { view manager.new cells.new ≡ (outcome (setup_of R.meaning manager.old) (view manager.old cells.old) (entry item.entry)).left }
     ensures setup { setup_of R.meaning manager.new ≡ setup_of R.meaning manager.old }
 {
     match item {
-        Item::Call(call) => manager.call(cells, call),
-        Item::Unreadable { .. } => Answer::Refused(Refusal::UnreadableLine),
+        Ok(call) => manager.call(cells, call),
+        Err(_) => Answer::Refused(Refusal::UnreadableLine),
     }
 }
 
@@ -83,16 +90,8 @@ fn play_tape<R: LockRule + Drop>(
     ensures { MatchResult result (λ n. Put sheet.old 0 (tape_sheet (R.meaning planned.rule) (contents planned.chart.plan) tape.now) sheet.new n) (λ _. ⊥) }
 {
     let mut cells = [0; CELLS];
-    let mut locks = [LockRecord {
-        task: 0,
-        object: 0,
-        mode: 0,
-    }; LOCKS];
-    let mut journal = [Image {
-        task: 0,
-        cell: 0,
-        old: 0,
-    }; IMAGES];
+    let mut locks = [LockRecord::default(); LOCKS];
+    let mut journal = [Image::default(); IMAGES];
     let mut manager = Manager::make_from(planned, &mut cells, &mut locks, &mut journal)?;
     play_lines(&mut manager, &mut cells, tape, sheet)
 }

@@ -19,23 +19,17 @@ const SHEET: usize = 32_000;
 fn play_input(input: &[u8], sheet: &mut [u8]) -> Result<usize, Refusal>
     ensures { Plays (play_bytes input.now (length sheet.old)) sheet.old sheet.new result }
 {
-    match input {
-        [] => Err(Refusal::NumberNotThere),
-        [rule, rest @ ..] => play_numbered(*rule as i64, rest, sheet),
-    }
+    let [rule, rest @ ..] = input else {
+        return Err(Refusal::NumberNotThere);
+    };
+    play_numbered(i64::from(*rule), rest, sheet)
 }
 
 fn main(rt: HostRuntime) -> io::Result<()> {
     let input = read_past(&rt, MOST_BYTES)?;
     let mut sheet = vec![in rt.alloc(); 0u8; SHEET]?;
     match play_input(&input, &mut sheet) {
-        Ok(written) => {
-            let lines = sheet.get(0..written).unwrap_or(&[]);
-            rt.stdout().write_all(lines)
-        }
-        Err(refusal) => {
-            let number = refusal.number();
-            println!(rt; "refused {number}")
-        }
+        Ok(written) => rt.stdout().write_all(&sheet[..written]),
+        Err(refusal) => println!(rt; "refused {}", refusal.number()),
     }
 }

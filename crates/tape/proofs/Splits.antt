@@ -1,23 +1,13 @@
 -- A tape splits into its lines. Assumes nothing.
 use Rattle.std.proofs.Common.{◌≡◌, ℕ, suc, ◌+◌, ◌-◌, ◌<◌, ◌≤◌, cond, not, eqb, List, [], ◌∷◌, ◌++◌, length, get_or, take, drop, Some, None, Option, sym, refl, ap, ◌∙◌, inl, inr, add-one, arith}
 use Rattle.std.specs.List.{flat_map, AllByRecursion}
-use Rattle.std.proofs.lemmas.List.{at_drop_more, drop_all, drop-drop, length-drop, length-take-le}
-use Rattle.std.proofs.lemmas.Bool.{lt-ltb, eq-eqb, ne_eqb, eqb-true, eqb-false, cases_Bool, cases_lt, cond_both}
+use Rattle.std.proofs.lemmas.List.{drop_all, drop-drop, length-drop, length-take-le}
+use Rattle.std.proofs.lemmas.Bool.{lt-ltb, eqb-true, eqb-false, cases_Bool, cases_lt, cond_both}
 use Rattle.protocol.specs.declared.words.Call.{Call}
 use Rattle.tape.specs.Lines.{read_line}
 use Rattle.tape.specs.Tapes.{onto, lines, line_length, said, entries, lacks_end, with_end, InPlace, Splits}
 
-module _ (bytes : List ℕ) (i : ℕ) (inside : i < length bytes) where
-  here : line_length (drop i bytes) ≡ cond (eqb (get_or bytes i 0) 10) 0 (suc (line_length (drop (i + 1) bytes)))
-  here = at_drop_more line_length bytes i 0 inside
-
-  pub end_here : get_or bytes i 0 ≡ 10 → line_length (drop i bytes) ≡ 0
-  end_here e = here ∙ rw (eq-eqb (get_or bytes i 0) 10 e)
-
-  pub end_later : (get_or bytes i 0 ≡ 10 → ⊥) → line_length (drop i bytes) ≡ suc (line_length (drop (i + 1) bytes))
-  end_later e = here ∙ rw (ne_eqb (get_or bytes i 0) 10 e)
-
-line_length_le : (bytes : List ℕ) → line_length bytes ≤ length bytes
+pub line_length_le : (bytes : List ℕ) → line_length bytes ≤ length bytes
 line_length_le [] = omega arith
 line_length_le (byte ∷ bytes) = cond_both (eqb byte 10) 0 (suc (line_length bytes)) (λ n. n ≤ suc (length bytes)) (λ _. omega arith) (λ _. omega (arith, line_length_le bytes))
 
@@ -68,7 +58,7 @@ module _ (bytes : List ℕ) (place end : ℕ) (inside : place < length bytes) (e
       ap (entries place) (split ∙ ap (λ more. line ∷ more) none) ∙ ap (λ more. said line place (read_line line) ∷ entries end more) (sym none_here)
 
 -- the tape is not empty, so it has a line
-some_line : (bytes : List ℕ) → 0 < length bytes → 0 < length (lines bytes)
+pub some_line : (bytes : List ℕ) → 0 < length bytes → 0 < length (lines bytes)
 some_line bytes some = omega (arith, ap length (first_line bytes some))
 
 abbrev with_ends : List (List ℕ) → List ℕ
@@ -76,13 +66,13 @@ with_ends all = flat_map (λ line. line ++ (10 ∷ [])) all
 
 with_ends_onto : (byte : ℕ) (all : List (List ℕ)) → 0 < length all → with_ends (onto byte all) ≡ byte ∷ with_ends all
 with_ends_onto byte [] some = absurd (omega arith)
-with_ends_onto byte (line ∷ more) some = refl
+with_ends_onto byte (first ∷ more) some = refl
 
 -- the last byte stays the last
-lacks_is : (tape : List ℕ) → 0 < length tape → lacks_end tape ≡ not (eqb (get_or tape (length tape - 1) 0) 10)
+pub lacks_is : (tape : List ℕ) → 0 < length tape → lacks_end tape ≡ not (eqb (get_or tape (length tape - 1) 0) 10)
 lacks_is tape h = rw (lt-ltb 0 (length tape) h)
 
-lacks_same : (byte next : ℕ) (tape : List ℕ) → lacks_end (byte ∷ (next ∷ tape)) ≡ lacks_end (next ∷ tape)
+pub lacks_same : (byte next : ℕ) (tape : List ℕ) → lacks_end (byte ∷ (next ∷ tape)) ≡ lacks_end (next ∷ tape)
 lacks_same byte next tape =
     let last : length (byte ∷ (next ∷ tape)) - 1 ≡ suc (length (next ∷ tape) - 1) = omega arith in
     lacks_is (byte ∷ (next ∷ tape)) (omega arith) ∙ ap (λ n. not (eqb (get_or (byte ∷ (next ∷ tape)) n 0) 10)) last ∙ sym (lacks_is (next ∷ tape) (omega arith))
@@ -107,15 +97,15 @@ NoEnd line = AllByRecursion (λ byte. byte ≡ 10 → ⊥) line
 
 apart_onto : (byte : ℕ) (all : List (List ℕ)) → (byte ≡ 10 → ⊥) → AllByRecursion NoEnd all → AllByRecursion NoEnd (onto byte all)
 apart_onto byte [] other h = ((other, tt), tt)
-apart_onto byte (line ∷ more) other h = ((other, h.0), h.1)
+apart_onto byte (first ∷ more) other h = ((other, h.0), h.1)
 
 apart : (tape : List ℕ) → AllByRecursion NoEnd (lines tape)
 apart [] = tt
 apart (byte ∷ tape) = cond_both (eqb byte 10) ([] ∷ lines tape) (onto byte (lines tape)) (AllByRecursion NoEnd) (λ is. (tt, apart tape)) (λ other. apart_onto byte (lines tape) (eqb-false byte 10 other) (apart tape))
 
 stands : (tape line : List ℕ) (place : ℕ) (o : Option Call) → take (length line) (drop place tape) ≡ line → InPlace tape (said line place o)
-stands tape line place (Some c) e = tt
-stands tape line place None e = e
+stands tape first place (Some c) e = tt
+stands tape first place None e = e
 
 in_place : (tape : List ℕ) (place : ℕ) (all : List (List ℕ)) → lines (drop place tape) ≡ all → AllByRecursion (InPlace tape) (entries place all)
 in_place tape place [] e = tt

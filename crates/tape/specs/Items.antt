@@ -1,13 +1,13 @@
 -- What the reader of a tape has still to give. Assumes nothing.
-use Rattle.std.specs.Prelude.{◌≡◌, ℕ, ◌-◌, List, [], ◌∷◌, length, drop, Option, MatchOption}
+use Rattle.std.specs.Prelude.{◌≡◌, ℕ, ◌-◌, List, [], ◌∷◌, length, drop, Ok, Err, Option, Result, MatchOption}
 use Rattle.tape.specs.Tapes.{lines, Entry, call, unreadable, entries}
-use Rattle.tape.specs.declared.items.Item.{Item}
-use Rattle.tape.specs.declared.items.Item.TheVariants.{Call, Unreadable}
+use Rattle.protocol.specs.declared.words.Call.{Call}
+use Rattle.tape.specs.declared.items.Unreadable.{Unreadable}
 use Rattle.tape.specs.declared.items.Tape.{Tape}
 
-abbrev pub entry : Item → Entry
-entry (Call c) = call c
-entry (Unreadable line place) = unreadable line.now place
+abbrev pub entry : Result Call Unreadable → Entry
+entry (Ok c) = call c
+entry (Err none) = unreadable none.line.now none.place
 
 -- the entries from its place on
 abbrev pub to_come : Tape → List Entry
@@ -18,5 +18,5 @@ abbrev pub bytes_left : Tape → ℕ
 bytes_left t = length t.bytes.now - t.place
 
 -- a step gives the first of what was to come, and the rest is still to come
-abbrev pub Steps : Tape → Option Item → Tape → Type 0
+abbrev pub Steps : Tape → Option (Result Call Unreadable) → Tape → Type 0
 Steps before given after = MatchOption given ((to_come before ≡ []) × (after ≡ before)) (λ item. to_come before ≡ entry item ∷ to_come after)

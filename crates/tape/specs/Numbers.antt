@@ -1,9 +1,14 @@
 -- Reading the numbers of a tape line: what is read at the front of bytes, and the bytes after it. docs/TAPE.md has the format. Assumes nothing.
-use Rattle.std.specs.Prelude.{ℕ, ◌+◌, ◌-◌, ◌*◌, Bool, cond, ◌&&◌, List, [], ◌∷◌, drop, ℤ, pos, neg_ℤ, Some, None, Option, ◌==◌, nat_le, nat_lt, slice_index}
+use Rattle.std.specs.Prelude.{◌≡◌, ℕ, ◌+◌, ◌-◌, ◌*◌, Bool, cond, ◌&&◌, List, [], ◌∷◌, drop, ℤ, pos, neg_ℤ, Some, None, Option, ◌==◌, nat_le, nat_lt, slice_index, MatchOption}
+use Rattle.std.specs.Borrow.{Bor}
 
 -- what is read, and the bytes after it; or nothing, where the bytes do not begin with it
 abbrev pub Read : Type 0 → Type 0
 Read A = Option (A × List ℕ)
+
+-- a function's result is this reading
+abbrev pub IsRead : {A : Type 0} → Read A → Option (A × Bor (List ℕ)) → Type 0
+IsRead reading result = MatchOption result (reading ≡ None) (λ p. reading ≡ Some (p.0, p.1.now))
 
 -- after what was read, the rest is read on
 abbrev pub and_then : {A B : Type 0} → Read A → (A → List ℕ → Option B) → Option B

@@ -1,19 +1,17 @@
-// The items of a tape, line by line: a call, or a line that is none. What a line means is in `lines`.
+// The lines of a tape, one by one: a call, or a line that is none. What a line means is in `lines`.
 ghost use Rattle.std.specs.Prelude.{◌≡◌, ◌≤◌, length};
-ghost use Rattle.tape.specs.Lines.{read_line};
-ghost use Rattle.tape.specs.Tapes.{line_length, lines, said, entries, Splits};
-ghost use Rattle.tape.specs.Items.{entry, to_come, bytes_left, Steps};
+ghost use Rattle.tape.specs.Tapes.{line_length, lines, entries, Splits};
+ghost use Rattle.tape.specs.Items.{to_come, bytes_left, Steps};
 ghost use Rattle.std.specs.Iterator.{at_most};
 
 use crate::lines::read_line;
 use protocol::Call;
 
-// What a tape line says.
-#[derive(Clone, Copy)]
-pub enum Item<'a> {
-    Call(Call),
-    // A line that is no call, and the number of tape bytes before it.
-    Unreadable { line: &'a [u8], place: usize },
+// A line that is no call, and the number of tape bytes before it.
+#[derive(Clone, Copy, Debug, PartialEq, Eq)]
+pub struct Unreadable<'a> {
+    pub line: &'a [u8],
+    pub place: usize,
 }
 
 // A tape, and the place from which it is still to be read.
@@ -28,21 +26,10 @@ fn line_length(bytes: &[u8]) -> usize
     ensures line { result ≡ line_length bytes.now }
     ensures within { result ≤ length bytes.now }
 {
-    for (i, byte) in bytes.iter().enumerate() {
-        if *byte == b'\n' {
-            return i;
-        }
-    }
-    bytes.len()
-}
-
-fn item_of(line: &[u8], place: usize) -> Item<'_>
-    ensures { entry result ≡ said line.now place (read_line line.now) }
-{
-    match read_line(line) {
-        Some(call) => Item::Call(call),
-        None => Item::Unreadable { line, place },
-    }
+    bytes
+        .iter()
+        .position(|byte| *byte == b'\n')
+        .unwrap_or(bytes.len())
 }
 
 impl<'a> Tape<'a> {
@@ -56,13 +43,13 @@ impl<'a> Tape<'a> {
 }
 
 impl<'a> Iterator for Tape<'a> {
-    type Item = Item<'a>;
+    type Item = Result<Call, Unreadable<'a>>;
 
     ghost next_gives = { Steps };
 
     ghost remaining = { λ s. at_most (bytes_left s) };
 
-    fn next(&mut self) -> Option<Item<'a>> {
+    fn next(&mut self) -> Option<Result<Call, Unreadable<'a>>> {
         let bytes: &'a [u8] = self.bytes;
         let place = self.place;
         if place >= bytes.len() {
@@ -71,7 +58,7 @@ impl<'a> Iterator for Tape<'a> {
         let end = place + line_length(&bytes[place..]);
         let line = &bytes[place..end];
         // The last line may lack its end.
-        self.place = if end < bytes.len() { end + 1 } else { end };
-        Some(item_of(line, place))
+        self.place = bytes.len().min(end + 1);
+        Some(read_line(line).ok_or(Unreadable { line, place }))
     }
 }

@@ -1,13 +1,14 @@
 // Reading a tape line as a call. docs/TAPE.md has the format.
-ghost use Rattle.std.specs.Prelude.{◌≡◌, Some, None, MatchOption};
-ghost use Rattle.tape.specs.Lines.{ended, read_three, read_arrive, read_lock, read_read, read_write, read_close, read_drop, read_call, read_line};
+ghost use Rattle.std.specs.Prelude.{◌≡◌};
+ghost use Rattle.tape.specs.Numbers.{read_field, IsRead};
+ghost use Rattle.tape.specs.Lines.{ended, read_three, read_write, read_call, read_line, IsMade};
 ghost use Rattle.tape.specs.Written.{ReadsExactly, LineExamples};
 
 use crate::numbers::{read_field, read_value};
 use protocol::Call;
 
 // The first three fields of a line that has them.
-#[derive(Clone, Copy)]
+#[derive(Clone, Copy, Debug, PartialEq, Eq)]
 pub(crate) struct Three {
     pub task: u8,
     pub object: u8,
@@ -19,51 +20,39 @@ pub(crate) struct Three {
 fn ended(call: Call, rest: &[u8]) -> Option<Call>
     ensures { result ≡ ended call rest.now }
 {
-    if rest.is_empty() { Some(call) } else { None }
+    rest.is_empty().then_some(call)
 }
 
 fn read_three(fields: &[u8]) -> Option<(Three, &[u8])>
-    ensures { MatchOption result (read_three fields.now ≡ None) (λ p. read_three fields.now ≡ Some (p.0, p.1.now)) }
+    ensures { IsRead (read_three fields.now) result }
 {
     let (task, rest) = read_field(fields)?;
     let (object, rest) = read_field(rest)?;
     let (third, rest) = read_field(rest)?;
-    Some((
-        Three {
-            task,
-            object,
-            third,
-        },
-        rest,
-    ))
+    let three = Three {
+        task,
+        object,
+        third,
+    };
+    Some((three, rest))
 }
 
-fn read_lock(fields: &[u8]) -> Option<Call>
-    ensures { result ≡ read_lock fields.now }
+// A call that is made of a task alone.
+fn call_of_task<F: Fn(u8) -> Call>(fields: &[u8], make: F) -> Option<Call>
+    requires { F.IsAlwaysCallable make }
+    ensures { IsMade (read_field fields.now) (F.post make) result }
 {
-    let (three, rest) = read_three(fields)?;
-    ended(
-        Call::Lock {
-            task: three.task,
-            object: three.object,
-            mode: three.third,
-        },
-        rest,
-    )
+    let (task, rest) = read_field(fields)?;
+    ended(make(task), rest)
 }
 
-fn read_read(fields: &[u8]) -> Option<Call>
-    ensures { result ≡ read_read fields.now }
+// A call that is made of three fields.
+fn call_of_three<F: Fn(Three) -> Call>(fields: &[u8], make: F) -> Option<Call>
+    requires { F.IsAlwaysCallable make }
+    ensures { IsMade (read_three fields.now) (F.post make) result }
 {
     let (three, rest) = read_three(fields)?;
-    ended(
-        Call::Read {
-            task: three.task,
-            object: three.object,
-            part: three.third,
-        },
-        rest,
-    )
+    ended(make(three), rest)
 }
 
 fn read_write(fields: &[u8]) -> Option<Call>
@@ -82,37 +71,30 @@ fn read_write(fields: &[u8]) -> Option<Call>
     )
 }
 
-fn read_arrive(fields: &[u8]) -> Option<Call>
-    ensures { result ≡ read_arrive fields.now }
-{
-    let (task, rest) = read_field(fields)?;
-    ended(Call::Arrive { task }, rest)
-}
-
-fn read_close(fields: &[u8]) -> Option<Call>
-    ensures { result ≡ read_close fields.now }
-{
-    let (task, rest) = read_field(fields)?;
-    ended(Call::Close { task }, rest)
-}
-
-fn read_drop(fields: &[u8]) -> Option<Call>
-    ensures { result ≡ read_drop fields.now }
-{
-    let (task, rest) = read_field(fields)?;
-    ended(Call::Drop { task }, rest)
-}
-
 fn read_call(letter: char, fields: &[u8]) -> Option<Call>
     ensures { result ≡ read_call letter fields.now }
 {
     match letter {
-        'A' => read_arrive(fields),
-        'L' => read_lock(fields),
-        'R' => read_read(fields),
+        'A' => call_of_task(fields, |task| Call::Arrive { task }),
+        'L' => call_of_three(
+            fields,
+            |three| Call::Lock {
+                task: three.task,
+                object: three.object,
+                mode: three.third,
+            },
+        ),
+        'R' => call_of_three(
+            fields,
+            |three| Call::Read {
+                task: three.task,
+                object: three.object,
+                part: three.third,
+            },
+        ),
         'W' => read_write(fields),
-        'F' => read_close(fields),
-        'X' => read_drop(fields),
+        'F' => call_of_task(fields, |task| Call::Close { task }),
+        'X' => call_of_task(fields, |task| Call::Drop { task }),
         'T' => ended(Call::Tick, fields),
         _ => None,
     }

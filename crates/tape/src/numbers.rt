@@ -1,53 +1,47 @@
 // Reading the numbers of a tape line. docs/TAPE.md has the format.
-ghost use Rattle.std.specs.Prelude.{◌≡◌, ◌^◌, ◌≤◌, IfSome, Some, None, MatchOption};
-ghost use Rattle.tape.specs.Numbers.{digits_after, read_number, read_field, below_zero, not_below_zero, read_signed, read_value};
+ghost use Rattle.tape.specs.Numbers.{digits_after, read_number, read_field, below_zero, not_below_zero, read_signed, read_value, IsRead};
 
-// The digits at the front, as far as they go, where their number stays within `most`.
-fn read_digits(bytes: &[u8], most: u64) -> Option<(u64, &[u8])>
-    requires { most ≤ 2 ^ 31 }
-    ensures number { MatchOption result (digits_after most 0 bytes.now ≡ None) (λ p. digits_after most 0 bytes.now ≡ Some (p.0, p.1.now)) }
-    ensures within { IfSome result (λ p. p.0 ≤ most) }
+// The digits at the front, as far as they go, where their number fits.
+fn read_digits(bytes: &[u8]) -> Option<(u32, &[u8])>
+    ensures { IsRead (digits_after 4294967295 0 bytes.now) result }
 {
-    let mut number: u64 = 0;
+    let mut number: u32 = 0;
     let mut rest = bytes;
+    // A loop of its own, as `parse` also takes `+5` and `007`, which are no numbers of a tape.
     while let [digit @ b'0'..=b'9', after @ ..] = rest {
-        number = number * 10 + u64::from(*digit - b'0');
-        if most < number {
-            return None;
-        }
+        number = number
+            .checked_mul(10)?
+            .checked_add(u32::from(*digit - b'0'))?;
         rest = after;
     }
     Some((number, rest))
 }
 
 // The number at the front: digits without a leading zero.
-fn read_number(bytes: &[u8], most: u64) -> Option<(u64, &[u8])>
-    requires { most ≤ 2 ^ 31 }
-    ensures number { MatchOption result (read_number most bytes.now ≡ None) (λ p. read_number most bytes.now ≡ Some (p.0, p.1.now)) }
-    ensures within { IfSome result (λ p. p.0 ≤ most) }
+fn read_number(bytes: &[u8]) -> Option<(u32, &[u8])>
+    ensures { IsRead (read_number 4294967295 bytes.now) result }
 {
     match bytes {
         [b'0', rest @ ..] => Some((0, rest)),
-        [b'1'..=b'9', ..] => read_digits(bytes, most),
+        [b'1'..=b'9', ..] => read_digits(bytes),
         _ => None,
     }
 }
 
-// The field at the front, after its space.
+// The field at the front, after its space: a task, an object, a mode or a part.
 pub(crate) fn read_field(bytes: &[u8]) -> Option<(u8, &[u8])>
-    ensures { MatchOption result (read_field bytes.now ≡ None) (λ p. read_field bytes.now ≡ Some (p.0, p.1.now)) }
+    ensures { IsRead (read_field bytes.now) result }
 {
     let [b' ', number @ ..] = bytes else {
         return None;
     };
-    // A task, an object, a mode or a part is one byte.
-    let (number, rest) = read_number(number, 255)?;
-    Some((number as u8, rest))
+    let (number, rest) = read_number(number)?;
+    Some((u8::try_from(number).ok()?, rest))
 }
 
 // The value at the front, after its space; it alone may have a minus.
 pub(crate) fn read_value(bytes: &[u8]) -> Option<(i32, &[u8])>
-    ensures { MatchOption result (read_value bytes.now ≡ None) (λ p. read_value bytes.now ≡ Some (p.0, p.1.now)) }
+    ensures { IsRead (read_value bytes.now) result }
 {
     let [b' ', value @ ..] = bytes else {
         return None;
@@ -56,7 +50,7 @@ pub(crate) fn read_value(bytes: &[u8]) -> Option<(i32, &[u8])>
 }
 
 fn read_signed(bytes: &[u8]) -> Option<(i32, &[u8])>
-    ensures { MatchOption result (read_signed bytes.now ≡ None) (λ p. read_signed bytes.now ≡ Some (p.0, p.1.now)) }
+    ensures { IsRead (read_signed bytes.now) result }
 {
     match bytes {
         [b'-', magnitude @ ..] => read_below_zero(magnitude),
@@ -66,18 +60,18 @@ fn read_signed(bytes: &[u8]) -> Option<(i32, &[u8])>
 
 // What stands after a minus: 0 has none, and the least value is one further from 0 than the largest.
 fn read_below_zero(bytes: &[u8]) -> Option<(i32, &[u8])>
-    ensures { MatchOption result (below_zero (read_number 2147483648 bytes.now) ≡ None) (λ p. below_zero (read_number 2147483648 bytes.now) ≡ Some (p.0, p.1.now)) }
+    ensures { IsRead (below_zero (read_number 2147483648 bytes.now)) result }
 {
-    let (magnitude, rest) = read_number(bytes, 2147483648)?;
+    let (magnitude, rest) = read_number(bytes)?;
     if magnitude == 0 {
         return None;
     }
-    Some(((0 - magnitude as i64) as i32, rest))
+    Some((0i32.checked_sub_unsigned(magnitude)?, rest))
 }
 
 fn read_not_below_zero(bytes: &[u8]) -> Option<(i32, &[u8])>
-    ensures { MatchOption result (not_below_zero (read_number 2147483647 bytes.now) ≡ None) (λ p. not_below_zero (read_number 2147483647 bytes.now) ≡ Some (p.0, p.1.now)) }
+    ensures { IsRead (not_below_zero (read_number 2147483647 bytes.now)) result }
 {
-    let (magnitude, rest) = read_number(bytes, 2147483647)?;
-    Some((magnitude as i32, rest))
+    let (magnitude, rest) = read_number(bytes)?;
+    Some((i32::try_from(magnitude).ok()?, rest))
 }

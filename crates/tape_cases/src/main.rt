@@ -1,7 +1,6 @@
 // Tapes at the edges: what the player answers to every refusal that a tape can meet, and to lines that it cannot read.
 #![tactic(auto)]
 
-use plans::Refusal;
 use player::play_numbered;
 use std::io;
 use std::io::Write;
@@ -30,16 +29,9 @@ const UNREADABLE: &[u8] =
 fn show(rt: &HostRuntime, name: &str, rule: i64, input: &[u8], room: usize) -> io::Result<()> {
     println!(rt; "-- {name}")?;
     let mut sheet = vec![in rt.alloc(); b'#'; room]?;
-    let played: Result<usize, Refusal> = play_numbered(rule, input, &mut sheet);
-    match played {
-        Ok(written) => {
-            let lines = sheet.get(0..written).unwrap_or(&[]);
-            rt.stdout().write_all(lines)
-        }
-        Err(refusal) => {
-            let number = refusal.number();
-            println!(rt; "refused {number}")
-        }
+    match play_numbered(rule, input, &mut sheet) {
+        Ok(written) => rt.stdout().write_all(&sheet[..written]),
+        Err(refusal) => println!(rt; "refused {}", refusal.number()),
     }
 }
 
@@ -72,8 +64,8 @@ fn show_faults(rt: &HostRuntime) -> io::Result<()> {
         (46, 3),
     ] {
         let mut plan = HEADING;
-        if at < plan.len() {
-            plan[at] = value;
+        if let Some(byte) = plan.get_mut(at) {
+            *byte = value;
         }
         println!(rt; "byte {at} is {value}")?;
         show(rt, "a fault of the plan", 2, &plan, 32)?;

@@ -12,7 +12,7 @@ use std::io;
 use std::io::Write;
 
 // A lock of one part, named by its number.
-#[derive(Clone, Copy)]
+#[derive(Clone, Copy, Debug, PartialEq, Eq)]
 struct ByPart;
 
 impl LockRule for ByPart {
@@ -60,13 +60,7 @@ fn main(rt: HostRuntime) -> io::Result<()> {
     input.extend_from_slice(TAPE)?;
     let mut sheet = [0u8; 1024];
     match play(ByPart, &input, &mut sheet) {
-        Ok(written) => {
-            let lines = sheet.get(0..written).unwrap_or(&[]);
-            rt.stdout().write_all(lines)
-        }
-        Err(refusal) => {
-            let number = refusal.number();
-            println!(rt; "refused {number}")
-        }
+        Ok(written) => rt.stdout().write_all(&sheet[..written]),
+        Err(refusal) => println!(rt; "refused {}", refusal.number()),
     }
 }

@@ -1,21 +1,20 @@
--- The line ends here, or later, or with the bytes.
-use Rattle.std.proofs.Common.{arith}
-use Rattle.std.proofs.lemmas.List.{at_drop_all}
+-- The first line end that the search finds, or none.
+use Rattle.std.proofs.Common.{cond, eqb, length, refl, ap, ◌∙◌, inl, inr, arith, rules, tests}
+use Rattle.std.proofs.lemmas.Bool.{lt-ltb, le-ltb, cases_lt}
+use Rattle.std.proofs.lemmas.Iterator.{YieldsList-from_slice}
+use Rattle.std.proofs.lemmas.Iterator.Search.{position_from_yields_List}
+use Rattle.std.proofs.lemmas.List.Recursion.{is_position_or_len}
 use Rattle.tape.specs.Tapes.{line_length}
-use Rattle.tape.proofs.Splits.{end_here, end_later}
+use Rattle.tape.proofs.Splits.{line_length_le}
 use Rattle.tape.proofs.items.line_length.Goals as goal
 
-pub returns-then-byte-eq10 : goal.returns-then-byte-eq10
-returns-then-byte-eq10 c =
-    let e = end_here c.args.bytes.now c.loop-i.i (omega arith) c.if-byte-eq10.true in
-    record { line = omega (arith, e, c.loop-i.invariant); within = omega arith }
-
-pub loop-i-preserved : goal.loop-i-preserved
-loop-i-preserved c =
-    let e = end_later c.args.bytes.now c.loop-i.i (omega arith) c.if-byte-eq10.false in
-    omega (arith, e, c.loop-i.invariant)
-
-pub returns : goal.returns
-returns c =
-    let e = at_drop_all line_length c.args.bytes.now c.loop-i.i (omega arith) in
-    record { line = omega (arith, e, c.loop-i.invariant); within = omega arith }
+pub returns-clause-line : goal.returns-clause-line
+returns-clause-line c =
+    let bytes = c.args.bytes.now in
+    let found = position_from_yields_List (λ byte. eqb byte 10) _ _ c.position.result c.position.ensures.ran (YieldsList-from_slice bytes c.iter.ensures.rest) (λ x b q k. search (rules, tests)) in
+    let first = is_position_or_len line_length (λ byte. eqb byte 10) refl (λ byte more. ap (cond (eqb byte 10) 0) (omega arith)) bytes in
+    c.unwrap_or.ensures
+    ∙ rw (found, ← first) (elim (cases_lt (line_length bytes) (length bytes)) [
+      | inl inside ↦ rw (lt-ltb _ _ inside)
+      | inr past ↦ rw (le-ltb _ _ past) (omega (arith, line_length_le bytes))
+    ])

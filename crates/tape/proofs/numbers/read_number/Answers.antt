@@ -8,4 +8,4 @@ pub returns-in-48 : goal.returns-in-48
 returns-in-48 c =
     let bytes = c.args.bytes.now in
     let zero : get_or bytes 0 0 ≡ 48 = omega (arith, ltb-true, ltb-false) in
-    record { number = rw (take_rest bytes 1, eq-eqb _ _ zero); within = omega arith }
+    rw (take_rest bytes 1, eq-eqb _ _ zero)
