@@ -3,10 +3,7 @@ ghost use Rattle.std.specs.Prelude.{◌≡◌, ℕ, ◌≤◌, length};
 ghost use Rattle.plans.specs.Plans.{contents};
 ghost use Rattle.charts.specs.Users.{entry, highest_user};
 
-use plans::Plan;
-
-// A plan has at most 32 objects.
-pub(crate) const OBJECTS: usize = 32;
+use plans::{MOST_OBJECTS, Plan};
 
 // A rule has at most 8 modes.
 pub(crate) const MODES: usize = 8;
@@ -15,7 +12,7 @@ pub(crate) const MODES: usize = 8;
 pub struct Chart {
     pub(crate) plan: Plan,
     // At each object, then each mode, the highest task that may lock the object in the mode.
-    pub(crate) users: [[u8; MODES]; OBJECTS],
+    pub(crate) users: [[u8; MODES]; MOST_OBJECTS],
     // Every task has one of the 16 records.
     ghost few_tasks: { length (contents plan).rows ≤ 16 },
     // Every object has its 4 of the 128 cells.

@@ -5,19 +5,16 @@ ghost use Rattle.plans.specs.Plans.{contents};
 ghost use Rattle.protocol.specs.Machine.{any, is_use};
 ghost use Rattle.charts.specs.Users.{entry, highest_user, HasEntry};
 
-use crate::chart::{Chart, MODES, OBJECTS};
-use plans::{Plan, Use};
+use crate::chart::{Chart, MODES};
+use plans::{MOST_OBJECTS, NO_TASK, Plan, Use};
 use rules::LockRule;
 
-// Past every task, of which there are at most 16.
-const NO_TASK: u8 = 16;
-
 // The table of who may lock what, from one walk of the uses.
-pub(crate) fn users_of(uses: &[Use]) -> [[u8; MODES]; OBJECTS]
+pub(crate) fn users_of(uses: &[Use]) -> [[u8; MODES]; MOST_OBJECTS]
     requires { All HasEntry uses.now }
     ensures { (object mode : ℕ) → entry result object mode ≡ highest_user uses.now object mode }
 {
-    let mut users = [[NO_TASK; MODES]; OBJECTS];
+    let mut users = [[NO_TASK; MODES]; MOST_OBJECTS];
     for u in uses {
         let (object, mode) = (u.object as usize, u.mode as usize);
         users[object][mode] = u.task.min(users[object][mode]);

@@ -10,7 +10,7 @@ use crate::refusal::Refusal;
 use rules::LockRule;
 
 // Past every task, of which there are at most 16. A number and no Option: a task is compared with it as with any ceiling.
-const NO_TASK: u8 = 16;
+pub const NO_TASK: u8 = 16;
 
 // The highest task that a lock can keep waiting, and the use by which it comes to that.
 #[derive(Clone, Copy, Debug, PartialEq, Eq)]

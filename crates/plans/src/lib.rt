@@ -7,7 +7,7 @@ mod plan;
 mod reader;
 mod refusal;
 
-pub use ceilings::{Bound, Ceiling};
+pub use ceilings::{Bound, Ceiling, NO_TASK};
 pub use parts::{Object, Row, Use};
-pub use plan::Plan;
+pub use plan::{MOST_OBJECTS, MOST_TASKS, Plan};
 pub use refusal::Refusal;

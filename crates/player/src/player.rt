@@ -12,10 +12,10 @@ ghost use Rattle.player.specs.Playing.{outcome, play_sheet, play_state, tape_she
 use charts::Planned;
 use manager::Manager;
 use plans::Refusal;
-use protocol::{Answer, CELLS, Call, Image, LockRecord};
+use protocol::{Answer, CELLS, Image, LockRecord};
 use rules::LockRule;
 use sheets::{MOST_LINE, write_line};
-use tape::{Tape, Unreadable};
+use tape::{Item, Tape};
 
 // What one input may hold, so that a controller's buffer for it has a fixed size.
 const MOST_INPUT: usize = 60_000;
@@ -45,11 +45,7 @@ fn count_lines(tape: &[u8]) -> usize
 }
 
 // An unreadable line is answered by a refusal, and makes no call.
-fn play_item<R: LockRule>(
-    manager: &mut Manager<'_, R>,
-    cells: &mut [i32],
-    item: Result<Call, Unreadable<'_>>,
-) -> Answer
+fn play_item<R: LockRule>(manager: &mut Manager<'_, R>, cells: &mut [i32], item: Item<'_>) -> Answer
     ensures answer { result ≡ (outcome (setup_of R.meaning manager.old) (view manager.old cells.old) (entry item.entry)).answer }
     ensures state { view manager.new cells.new ≡ (outcome (setup_of R.meaning manager.old) (view manager.old cells.old) (entry item.entry)).left }
     ensures setup { setup_of R.meaning manager.new ≡ setup_of R.meaning manager.old }

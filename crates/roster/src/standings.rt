@@ -5,7 +5,8 @@ ghost use Rattle.protocol.specs.Machine.{names};
 ghost use Rattle.protocol.specs.Served.{named_by};
 ghost use Rattle.roster.specs.Records.{tasks_of};
 
-use crate::roster::{Roster, TASKS};
+use crate::roster::Roster;
+use plans::MOST_TASKS;
 use protocol::{Standing, Task};
 
 // The task that a number names: the one that it waits for, else itself.
@@ -34,7 +35,7 @@ impl Roster {
         ensures { tasks_of result ≡ replicate 16 resting }
     {
         Roster {
-            tasks: [Task::default(); TASKS],
+            tasks: [Task::default(); MOST_TASKS],
         }
     }
 

@@ -6,8 +6,8 @@ ghost use Rattle.protocol.specs.Machine.{change, wake, ticked, tick_from};
 ghost use Rattle.roster.specs.Records.{tasks_of};
 ghost use Rattle.roster.specs.Turns.{allows, turned};
 
-use crate::roster::{Roster, TASKS};
-use plans::Refusal;
+use crate::roster::Roster;
+use plans::{MOST_TASKS, Refusal};
 use protocol::{Standing, Task};
 
 // The task is not there, or does not stand so that it may.
@@ -51,7 +51,7 @@ impl Roster {
         ensures tasks { tasks_of self.new ≡ (if is_ok result then change (turned turn) (tasks_of self.old) task else tasks_of self.old) }
     {
         let k = usize::from(task);
-        if k >= TASKS {
+        if k >= MOST_TASKS {
             return Err(NotAllowed);
         }
         let t = &mut self.tasks[k];

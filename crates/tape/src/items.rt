@@ -14,6 +14,9 @@ pub struct Unreadable<'a> {
     pub place: usize,
 }
 
+// A line of a tape: a call, or a line that is none, which is borrowed from the tape.
+pub type Item<'a> = Result<Call, Unreadable<'a>>;
+
 // A tape, and the place from which it is still to be read.
 #[derive(Drop)]
 pub struct Tape<'a> {
@@ -43,13 +46,13 @@ impl<'a> Tape<'a> {
 }
 
 impl<'a> Iterator for Tape<'a> {
-    type Item = Result<Call, Unreadable<'a>>;
+    type Item = Item<'a>;
 
     ghost next_gives = { Steps };
 
     ghost remaining = { λ s. at_most (bytes_left s) };
 
-    fn next(&mut self) -> Option<Result<Call, Unreadable<'a>>> {
+    fn next(&mut self) -> Option<Item<'a>> {
         let bytes: &'a [u8] = self.bytes;
         let place = self.place;
         if place >= bytes.len() {

@@ -5,5 +5,5 @@ mod items;
 mod lines;
 mod numbers;
 
-pub use items::{Tape, Unreadable};
+pub use items::{Item, Tape, Unreadable};
 pub use lines::read_line;
