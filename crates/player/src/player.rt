@@ -3,7 +3,7 @@ ghost use Rattle.std.specs.Prelude.{◌≡◌, ◌*◌, ◌≤◌, ◌==◌, len
 ghost use Rattle.std.specs.List.{count_by};
 ghost use Rattle.plans.specs.Limits.{Limits};
 ghost use Rattle.plans.specs.Plans.{contents};
-ghost use Rattle.manager.specs.View.{setup_of, view};
+ghost use Rattle.player.specs.Players.{setup, state};
 ghost use Rattle.tape.specs.Items.{entry};
 ghost use Rattle.tape.specs.Tapes.{lines, entries};
 ghost use Rattle.sheets.specs.Sheets.{Put};
@@ -44,36 +44,40 @@ fn count_lines(tape: &[u8]) -> usize
     }
 }
 
-// An unreadable line is answered by a refusal, and makes no call.
-fn play_item<R: LockRule>(manager: &mut Manager<'_, R>, cells: &mut [i32], item: Item<'_>) -> Answer
-    ensures answer { result ≡ (outcome (setup_of R.meaning manager.old) (view manager.old cells.old) (entry item.entry)).answer }
-    ensures state { view manager.new cells.new ≡ (outcome (setup_of R.meaning manager.old) (view manager.old cells.old) (entry item.entry)).left }
-    ensures setup { setup_of R.meaning manager.new ≡ setup_of R.meaning manager.old }
-{
-    match item {
-        Ok(call) => manager.call(cells, call),
-        Err(_) => Answer::Refused(Refusal::UnreadableLine),
-    }
+// A manager, and the cells that it works on.
+#[derive(Drop)]
+struct Player<'a, R: LockRule> {
+    manager: Manager<'a, R>,
+    cells: [i32; CELLS],
 }
 
-fn play_lines<R: LockRule>(
-    manager: &mut Manager<'_, R>,
-    cells: &mut [i32],
-    tape: &[u8],
-    sheet: &mut [u8],
-) -> Result<usize, Refusal>
-    requires { 32 * length (lines tape.now) ≤ length sheet.old }
-    ensures sheet { MatchResult result (λ n. Put sheet.old 0 (play_sheet (setup_of R.meaning manager.old) (view manager.old cells.old) (entries 0 (lines tape.now))) sheet.new n) (λ _. ⊥) }
-    ensures state { view manager.new cells.new ≡ play_state (setup_of R.meaning manager.old) (view manager.old cells.old) (entries 0 (lines tape.now)) }
-    ensures setup { setup_of R.meaning manager.new ≡ setup_of R.meaning manager.old }
-{
-    let mut at = 0;
-    for item in Tape::new(tape) {
-        let answer = play_item(manager, cells, item);
-        // No line is refused, as the sheet has room for all of them.
-        at = write_line(sheet, at, answer, manager.running())?;
+impl<R: LockRule> Player<'_, R> {
+    // An unreadable line is answered by a refusal, and makes no call.
+    fn play_item(&mut self, item: Item<'_>) -> Answer
+        ensures answer { result ≡ (outcome (setup R.meaning self.old) (state self.old) (entry item.entry)).answer }
+        ensures state { state self.new ≡ (outcome (setup R.meaning self.old) (state self.old) (entry item.entry)).left }
+        ensures setup { setup R.meaning self.new ≡ setup R.meaning self.old }
+    {
+        match item {
+            Ok(call) => self.manager.call(&mut self.cells, call),
+            Err(_) => Answer::Refused(Refusal::UnreadableLine),
+        }
     }
-    Ok(at)
+
+    fn play_lines(&mut self, tape: &[u8], sheet: &mut [u8]) -> Result<usize, Refusal>
+        requires { 32 * length (lines tape.now) ≤ length sheet.old }
+        ensures sheet { MatchResult result (λ n. Put sheet.old 0 (play_sheet (setup R.meaning self.old) (state self.old) (entries 0 (lines tape.now))) sheet.new n) (λ _. ⊥) }
+        ensures state { state self.new ≡ play_state (setup R.meaning self.old) (state self.old) (entries 0 (lines tape.now)) }
+        ensures setup { setup R.meaning self.new ≡ setup R.meaning self.old }
+    {
+        let mut at = 0;
+        for item in Tape::new(tape) {
+            let answer = self.play_item(item);
+            // No line is refused, as the sheet has room for all of them.
+            at = write_line(sheet, at, answer, self.manager.running())?;
+        }
+        Ok(at)
+    }
 }
 
 fn play_tape<R: LockRule + Drop>(
@@ -88,8 +92,9 @@ fn play_tape<R: LockRule + Drop>(
     let mut cells = [0; CELLS];
     let mut locks = [LockRecord::default(); LOCKS];
     let mut journal = [Image::default(); IMAGES];
-    let mut manager = Manager::make_from(planned, &mut cells, &mut locks, &mut journal)?;
-    play_lines(&mut manager, &mut cells, tape, sheet)
+    let manager = Manager::make_from(planned, &mut cells, &mut locks, &mut journal)?;
+    let mut player = Player { manager, cells };
+    player.play_lines(tape, sheet)
 }
 
 // Plays the tape that stands after the plan. The answer is how many bytes of the sheet were written; a refused play leaves it as it was.
