@@ -14,7 +14,7 @@ pub struct Unreadable<'a> {
     pub place: usize,
 }
 
-// A tape, and the place from which it is still to be read.
+// A tape, and the place from which it is still to be read: a rest that shrinks would need an invariant to give a line's place.
 #[derive(Drop)]
 pub struct Tape<'a> {
     bytes: &'a [u8],
