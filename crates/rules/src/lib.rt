@@ -3,11 +3,11 @@
 
 mod numbered;
 
-pub use numbered::{NumberedRule, UnknownRule};
-
 ghost use Rattle.std.specs.Prelude.{◌≡◌};
 ghost use Rattle.rules.specs.Meaning.{Meaning, Lawful, exclusive, read_write};
 ghost use Rattle.std.proofs.Common.{rules};
+
+pub use numbered::{NumberedRule, UnknownRule};
 
 // An object has the parts 0 to 3.
 pub const PARTS: u8 = 4;

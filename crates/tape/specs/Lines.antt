@@ -1,5 +1,6 @@
 -- What a tape line means: the call that it is, where it is one. docs/TAPE.md has the format. Assumes nothing.
 use Rattle.std.specs.Prelude.{◌≡◌, ℕ, cond, List, length, drop, Some, None, Option, ◌==◌, slice_index}
+use Rattle.std.specs.Borrow.{Bor}
 use Rattle.protocol.specs.declared.words.Call.{Call}
 use Rattle.protocol.specs.declared.words.Call.TheVariants.{Arrive, Lock, Read, Write, Close, Drop, Tick}
 use Rattle.tape.specs.Numbers as numbers
@@ -10,10 +11,10 @@ use Rattle.tape.specs.declared.lines.Three.{Three}
 abbrev pub ended : {A : Type 0} → A → List ℕ → Option A
 ended x rest = cond (length rest == 0) (Some x) None
 
--- a function's result is the call that is made of this reading, where nothing follows
-abbrev pub IsMade : {A : Type 0} → numbers.Read A → (A → Call → Type 0) → Option Call → Type 0
+-- a function's result is the call that is made of what was read, where nothing follows
+abbrev pub IsMade : {A : Type 0} → Option (A × Bor (List ℕ)) → (A → Call → Type 0) → Option Call → Type 0
 IsMade None made result = result ≡ None
-IsMade (Some p) made result = (call : Call) × made p.0 call × (result ≡ ended call p.1)
+IsMade (Some p) made result = (call : Call) × made p.0 call × (result ≡ ended call p.1.now)
 
 abbrev pub read_three : List ℕ → numbers.Read Three
 read_three fields =

@@ -1,6 +1,6 @@
 // Reading a tape line as a call. docs/TAPE.md has the format.
 ghost use Rattle.std.specs.Prelude.{◌≡◌};
-ghost use Rattle.tape.specs.Numbers.{read_field, IsRead};
+ghost use Rattle.tape.specs.Numbers.{IsRead};
 ghost use Rattle.tape.specs.Lines.{ended, read_three, read_write, read_call, read_line, IsMade};
 ghost use Rattle.tape.specs.Written.{ReadsExactly, LineExamples};
 
@@ -37,22 +37,13 @@ fn read_three(fields: &[u8]) -> Option<(Three, &[u8])>
     Some((three, rest))
 }
 
-// A call that is made of a task alone.
-fn call_of_task<F: Fn(u8) -> Call>(fields: &[u8], make: F) -> Option<Call>
+// The call that is made of what was read, where the line ends behind it.
+fn made<T, F: FnOnce(T) -> Call>(read: Option<(T, &[u8])>, make: F) -> Option<Call>
     requires { F.IsAlwaysCallable make }
-    ensures { IsMade (read_field fields.now) (F.post make) result }
+    ensures { IsMade read.entry (F.post make) result }
 {
-    let (task, rest) = read_field(fields)?;
-    ended(make(task), rest)
-}
-
-// A call that is made of three fields.
-fn call_of_three<F: Fn(Three) -> Call>(fields: &[u8], make: F) -> Option<Call>
-    requires { F.IsAlwaysCallable make }
-    ensures { IsMade (read_three fields.now) (F.post make) result }
-{
-    let (three, rest) = read_three(fields)?;
-    ended(make(three), rest)
+    let (fields, rest) = read?;
+    ended(make(fields), rest)
 }
 
 fn read_write(fields: &[u8]) -> Option<Call>
@@ -74,18 +65,19 @@ fn read_write(fields: &[u8]) -> Option<Call>
 fn read_call(letter: char, fields: &[u8]) -> Option<Call>
     ensures { result ≡ read_call letter fields.now }
 {
+    // The letter is matched as a character, one of the forms that docs/DECISIONS.md lists.
     match letter {
-        'A' => call_of_task(fields, |task| Call::Arrive { task }),
-        'L' => call_of_three(
-            fields,
+        'A' => made(read_field(fields), |task| Call::Arrive { task }),
+        'L' => made(
+            read_three(fields),
             |three| Call::Lock {
                 task: three.task,
                 object: three.object,
                 mode: three.third,
             },
         ),
-        'R' => call_of_three(
-            fields,
+        'R' => made(
+            read_three(fields),
             |three| Call::Read {
                 task: three.task,
                 object: three.object,
@@ -93,8 +85,8 @@ fn read_call(letter: char, fields: &[u8]) -> Option<Call>
             },
         ),
         'W' => read_write(fields),
-        'F' => call_of_task(fields, |task| Call::Close { task }),
-        'X' => call_of_task(fields, |task| Call::Drop { task }),
+        'F' => made(read_field(fields), |task| Call::Close { task }),
+        'X' => made(read_field(fields), |task| Call::Drop { task }),
         'T' => ended(Call::Tick, fields),
         _ => None,
     }
