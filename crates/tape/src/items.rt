@@ -14,14 +14,10 @@ pub struct Unreadable<'a> {
     pub place: usize,
 }
 
-<<<<<<< HEAD
 // A line of a tape: a call, or a line that is none, which is borrowed from the tape.
 pub type Item<'a> = Result<Call, Unreadable<'a>>;
 
-// A tape, and the place from which it is still to be read.
-=======
 // A tape, and the place from which it is still to be read: a rest that shrinks would need an invariant to give a line's place.
->>>>>>> 59dbc099b2012ead3160990be330129c8335dc84
 #[derive(Drop)]
 pub struct Tape<'a> {
     bytes: &'a [u8],
