@@ -27,6 +27,7 @@ pub(crate) trait Sink {
         requires { width ≤ 11 }
         ensures { OnOk result (adds self.old (column width number) self.new) };
 
+    // An empty text changes nothing, and two texts in a row are one.
     ghost nothing: { (sink : Self) → adds sink [] sink };
 
     ghost joins: { (a b c : Self) (s t : List ℕ) → adds a s b → adds b t c → adds a (s ++ t) c };
