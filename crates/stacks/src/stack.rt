@@ -16,7 +16,7 @@ pub trait Owned {
         ensures { result ≡ owner self.now };
 }
 
-// Its records are the first `len` of the slots, the oldest first.
+// Its records are the first `len` of the slots, the oldest first. The caller lends the slots, since the library does not allocate.
 #[derive(Drop)]
 pub struct Stack<'a, T> {
     slots: &'a mut [T],
