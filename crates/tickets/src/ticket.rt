@@ -6,7 +6,7 @@ ghost use Rattle.std.specs.Prelude.{◌≡◌, true};
 #[derive(Debug)]
 pub struct Ticket {
     pub(crate) task: u8,
-    // A mark, and not a type without a drop: a drop contract is what this project asks for, and so a lost ticket is a fact that fails.
+    // The drop contract reads it. A type without a drop needs no mark, but a lost ticket is then refused before any proof, so no must-fail edit shows it.
     pub(crate) spent: bool,
 }
 
