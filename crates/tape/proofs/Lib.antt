@@ -2,4 +2,3 @@ pub mod Digits
 pub mod Numerals
 pub mod Legal
 pub mod Splits
-pub mod Examples
