@@ -29,7 +29,7 @@ const LOGGING: u8 = 2;
 // The mode in which it reads the heading.
 const READ: u8 = 0;
 
-// How one turn of fusing came out.
+// How one turn of fusing came out. Both ends are good ones, so it is no Result of its own.
 enum Fused {
     Done(Account),
     // For the task with this number; fusing is then resumed by numbered calls.

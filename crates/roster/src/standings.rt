@@ -9,7 +9,7 @@ use crate::roster::Roster;
 use plans::MOST_TASKS;
 use protocol::{Standing, Task};
 
-// The task that a number names: the one that it waits for, else itself.
+// The task that a number names: the one that it waits for, else itself. A match, as it takes the holder out of the standing.
 fn named_by(standing: Standing, k: u8) -> u8
     ensures { result ≡ named_by standing k }
 {

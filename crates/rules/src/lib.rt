@@ -12,7 +12,7 @@ pub use numbered::{NumberedRule, UnknownRule};
 // An object has the parts 0 to 3.
 pub const PARTS: u8 = 4;
 
-// A lock rule. Its meaning is fixed, and every question is answered from it.
+// A lock rule. Its meaning is fixed, and every question is answered from it; each is about just the numbers that it takes, so no struct holds them.
 pub trait LockRule {
     ghost meaning: { Self → Meaning };
 

@@ -58,7 +58,7 @@ fn read_signed(bytes: &[u8]) -> Option<(i32, &[u8])>
     }
 }
 
-// What stands after a minus: 0 has none, and the least value is one further from 0 than the largest.
+// What stands after a minus: 0 has none, and the least value is one further from 0 than the largest. So it shares no text with the function below.
 fn read_below_zero(bytes: &[u8]) -> Option<(i32, &[u8])>
     ensures { IsRead (below_zero (read_number 2147483648 bytes.now)) result }
 {

@@ -28,8 +28,9 @@ impl LockRule for ByPart {
         mode < 4 && part == mode
     }
 
+    // What it reads it also writes.
     fn writes(&self, mode: u8, part: u8) -> bool {
-        mode < 4 && part == mode
+        self.reads(mode, part)
     }
 
     // A held part also keeps those off that want a part above it.
