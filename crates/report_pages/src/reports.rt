@@ -86,6 +86,7 @@ impl Accepted {
         ensures { OnOk result (S.adds sink.old (ceilings_text (rule_of self.now) (plan_of self.now)) sink.new) }
     {
         sink.add("\nobject  mode  ceiling  because\n")?;
+        // By number, since a ceiling is asked for by the numbers of an object and a mode.
         for object in 0..self.plan.objects().len() {
             for mode in 0..self.rule.modes() {
                 self.add_ceiling(sink, object, mode)?;
