@@ -1,13 +1,9 @@
 -- Adding one text after another. Assumes nothing.
-use Rattle.std.proofs.Common.{map, ◌≡◌, ℕ, zero, suc, ◌+◌, ◌-◌, ◌≤◌, min, max, List, [], ◌∷◌, ◌++◌, length, take, drop, replicate, sym, refl, ap, ◌∙◌, arith}
+use Rattle.std.proofs.Common.{◌≡◌, ℕ, zero, suc, ◌+◌, ◌-◌, ◌≤◌, min, max, List, [], ◌∷◌, ◌++◌, length, take, drop, replicate, sym, refl, ap, ◌∙◌, arith}
 use lib.Seq.{take-append-add}
-use Rattle.std.specs.List.{range_with_len}
 use Rattle.std.proofs.lemmas.List.{append_assoc, append-nil, length-append, take_all, drop-replicate, take-replicate}
-use Rattle.std.proofs.lemmas.List.FromFn.{map-range_with_len_more}
-use Rattle.std.proofs.lemmas.List.Concat.{flat_map-append}
-use Rattle.std.proofs.lemmas.List.Folds.{flat_map-map}
 use Rattle.sheets.specs.Sheets.{Put}
-use Rattle.pages.specs.Pages.{text_of, Added, padded, numbered_lines}
+use Rattle.pages.specs.Pages.{text_of, Added, padded}
 use Rattle.pages.specs.declared.page.Page.{Page}
 
 -- cutting early leaves out nothing that is not cut later
@@ -33,20 +29,3 @@ blanks_behind text cells end width {n} put kept most =
     let split : n ≡ length text + blanks = omega (arith, most, put.behind) in
     let fits : blanks ≤ 11 - (0 + length text) = omega arith in
     rw (put.bytes, split, drop-replicate, take-append-add, take-replicate)
-
--- the last of some lines stands at their end
-lines_more : (line : ℕ → List ℕ) (n : ℕ) → numbered_lines (n + 1) line ≡ numbered_lines n line ++ line n
-lines_more line n =
-    let before = flat_map-map line (λ (i : ℕ). i) (range_with_len 0 n) in
-    let after = flat_map-map line (λ (i : ℕ). i) (range_with_len 0 (n + 1)) in
-    let more = map-range_with_len_more (λ (i : ℕ). i) 0 n n (omega arith) in
-    let both = flat_map-append line (map (λ (i : ℕ). i) (range_with_len 0 n)) (n ∷ []) in
-    let one = append-nil (line n) in cc
-
--- one line more
-pub adds_line : (line : ℕ → List ℕ) (n : ℕ) {p q r : Page} → Added p (numbered_lines n line) q → Added q (line n) r → Added p (numbered_lines (n + 1) line) r
-adds_line line n {p} {q} {r} so_far more = rw (lines_more line n) (adds_then so_far more)
-
--- all of the lines
-pub adds_all : (line : ℕ → List ℕ) (n k : ℕ) {p q : Page} → k ≡ n → Added p (numbered_lines k line) q → Added p (numbered_lines n line) q
-adds_all line n k {p} {q} is so_far = rw (← is) so_far
