@@ -13,7 +13,7 @@ pub struct Chart {
     pub(crate) plan: Plan,
     // At each object, then each mode, the highest task that may lock the object in the mode.
     pub(crate) users: [[u8; MODES]; MOST_OBJECTS],
-    // Every task has one of the 16 records.
+    // Every task has one of the 16 records. A proof above that does not read the tables knows it by this alone, and the next.
     ghost few_tasks: { length (contents plan).rows ≤ 16 },
     // Every object has its 4 of the 128 cells.
     ghost few_objects: { length (contents plan).objects ≤ 32 },

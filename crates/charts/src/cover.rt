@@ -5,7 +5,7 @@ ghost use Rattle.protocol.specs.Machine.{any, is_record, covers};
 use protocol::LockRecord;
 use rules::LockRule;
 
-// The numbers come one by one, as a call has them: a struct of them would be made only to be taken apart here.
+// The numbers come one by one, as the calls of a manager have them: a struct of them would be made only to be taken apart.
 
 // Whether the task has the object in the mode.
 pub fn holds(locks: &[LockRecord], task: u8, object: u8, mode: u8) -> bool

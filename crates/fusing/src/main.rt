@@ -36,6 +36,7 @@ enum Fused {
     Waits(u8),
 }
 
+// The cells go beside the manager, as a ticket's calls take them.
 fn fuse<R: LockRule>(
     manager: &mut Manager<'_, R>,
     cells: &mut [i32],

@@ -97,6 +97,7 @@ impl<'a, R: LockRule> Manager<'a, R> {
     }
 
     // The cell of a part that the task may reach: there are enough cells, the numbers are there, and the task runs.
+    // The numbers come one by one, here and in the calls, as tapes and tickets have them.
     fn reach(&self, cells: &[i32], task: u8, object: u8, part: u8) -> Result<u8, Refusal>
         ensures tests { (next : Outcome) → reach (setup_of R.meaning self.now) (view self.now cells.now) task object part next ≡ after (view self.now cells.now) result next }
         ensures cell { IfOk result (λ cell. (cell ≡ cell_of object part) × (cell < length cells.now)) }

@@ -63,7 +63,7 @@ impl<'a, R: LockRule> Manager<'a, R> {
         ensures laws { LeadsOn (setup_of R.meaning self.old) (view self.old cells.old) (view self.new cells.new) (line_with (setup_of R.meaning self.old) (view self.old cells.old) (take result calls.now)) }
     {
         let calls = &calls[..calls.len().min(answers.len())];
-        // Not `answers.iter_mut().zip(calls)`: of what goes through an adapter of iter_mut a proof knows nothing afterwards.
+        // Not `answers.iter_mut().zip(calls)`: a proof follows `iter_mut` alone or under `enumerate`, and knows nothing of the answers after a `zip`.
         for (i, call) in calls.iter().enumerate() {
             answers[i] = self.call(cells, *call);
         }

@@ -9,5 +9,6 @@ pub const MOST: usize = 8192;
 #[derive(Drop)]
 pub struct Page {
     pub(crate) bytes: ArrayVec<u8, MOST>,
+    // A proof that does not read the bytes, as those of the crates above, knows their number by this alone.
     ghost fits: { length bytes.items ≤ 8192 },
 }

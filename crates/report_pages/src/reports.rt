@@ -207,7 +207,7 @@ pub fn page_on(input: &[u8]) -> Page
     page
 }
 
-// The same, to be printed.
+// The report on a rule byte and a plan, to be printed.
 #[derive(Clone, Copy)]
 pub struct Report<'a> {
     pub input: &'a [u8],

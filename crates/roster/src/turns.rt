@@ -55,6 +55,7 @@ impl Roster {
             return Err(NotAllowed);
         }
         let t = &mut self.tasks[k];
+        // The standing is matched together with the turn, one of the forms that docs/DECISIONS.md lists.
         match (t.standing, turn) {
             (Standing::Resting, Turn::Arrive) => {
                 *t = Task {

@@ -30,7 +30,7 @@ impl TryFrom<i64> for NumberedRule {
     }
 }
 
-// Each answer is that of the rule that is named. A function that takes the question as a closure would name both rules at each call all the same.
+// Each answer is that of the rule that is named. A closure for the question would name both rules at each call all the same, and no function may hand out a `dyn` rule.
 impl LockRule for NumberedRule {
     ghost meaning = { meaning_of };
 

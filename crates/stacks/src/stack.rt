@@ -8,7 +8,7 @@ use std::marker::Model;
 #[derive(Clone, Copy, Debug, PartialEq, Eq)]
 pub struct Full;
 
-// A record that belongs to a task.
+// A record that belongs to a task. A trait and no closure at each call: whose a record is, is a fact of its type.
 pub trait Owned {
     ghost owner: { Self → ℕ };
 

@@ -7,7 +7,7 @@ use Rattle.tape.specs.declared.items.Tape.{Tape}
 
 abbrev pub entry : Result Call Unreadable → Entry
 entry (Ok c) = call c
-entry (Err none) = unreadable none.line.now none.place
+entry (Err line) = unreadable line.line.now line.place
 
 -- the entries from its place on
 abbrev pub to_come : Tape → List Entry
