@@ -1,8 +1,9 @@
 // Reading a plan, and what is kept of it at hand.
-ghost use Rattle.std.specs.Prelude.{◌≡◌, IfOk, Ok, Err, MatchResult};
+ghost use Rattle.std.specs.Prelude.{◌≡◌, IfOk};
 ghost use Rattle.plans.specs.Limits.{Limits};
 ghost use Rattle.plans.specs.Plans.{contents};
 ghost use Rattle.plans.specs.Reading.{read_plan, read_whole};
+ghost use Rattle.plans.specs.Results.{Reads, and_rest};
 
 use crate::chart::Chart;
 use crate::lookups::users_of;
@@ -11,7 +12,6 @@ use plans::{Plan, Refusal};
 use rules::LockRule;
 
 impl<R: LockRule + Drop> Planned<R> {
-    // The limits are a clause and no ghost field: they go by recursion, so the type would need a proof that all proofs of them are equal.
     fn of(rule: R, plan: Plan) -> Planned<R>
         requires { Limits (R.meaning rule) (contents plan) }
         ensures rule { result.rule ≡ rule }
@@ -26,7 +26,7 @@ impl<R: LockRule + Drop> Planned<R> {
 
     // The plan at the front of the input, and the input after it.
     pub fn read<'a>(rule: R, input: &'a [u8]) -> Result<(Planned<R>, &'a [u8]), Refusal>
-        ensures answer { MatchResult result (λ p. read_plan (R.meaning rule) input.now ≡ Ok (contents p.0.chart.plan, p.1.now)) (λ why. read_plan (R.meaning rule) input.now ≡ Err why) }
+        ensures answer { Reads (and_rest (λ p. contents p.chart.plan)) result (read_plan (R.meaning rule) input.now) }
         ensures rule { IfOk result (λ p. p.0.rule ≡ rule) }
         ensures limits { IfOk result (λ p. Limits (R.meaning rule) (contents p.0.chart.plan)) }
     {
@@ -36,7 +36,7 @@ impl<R: LockRule + Drop> Planned<R> {
 
     // The plan, where it is all of the input.
     pub fn read_whole(rule: R, input: &[u8]) -> Result<Planned<R>, Refusal>
-        ensures answer { MatchResult result (λ p. read_whole (R.meaning rule) input.now ≡ Ok (contents p.chart.plan)) (λ why. read_whole (R.meaning rule) input.now ≡ Err why) }
+        ensures answer { Reads (λ p. contents p.chart.plan) result (read_whole (R.meaning rule) input.now) }
         ensures rule { IfOk result (λ p. p.rule ≡ rule) }
         ensures limits { IfOk result (λ p. Limits (R.meaning rule) (contents p.chart.plan)) }
     {

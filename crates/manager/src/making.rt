@@ -1,6 +1,5 @@
 // Making a manager.
 ghost use Rattle.std.specs.Prelude.{◌≡◌, length, IfOk, if◌then◌else◌, Some, None, Ok, OnErr, nat_lt};
-ghost use Rattle.plans.specs.Limits.{Limits};
 ghost use Rattle.plans.specs.Plans.{contents};
 ghost use Rattle.plans.specs.Reading.{read_whole};
 ghost use Rattle.plans.specs.declared.refusal.Refusal.TheVariants.{FewCells};
@@ -25,7 +24,7 @@ impl<'a, R: LockRule + Drop> Manager<'a, R> {
     ) -> Result<Manager<'a, R>, Refusal>
         ensures answer { refusal_of result ≡ (if nat_lt (length cells.old) 128 then Some FewCells else None) }
         ensures setup { IfOk result (λ m. setup_of R.meaning m ≡ setup_with (R.meaning planned.rule) (contents planned.chart.plan) (length locks.old) (length journal.old)) }
-        ensures started { IfOk result (λ m. Limits (R.meaning planned.rule) (contents planned.chart.plan) → Started (setup_of R.meaning m) cells.old (view m cells.new)) }
+        ensures started { IfOk result (λ m. Started (setup_of R.meaning m) cells.old (view m cells.new)) }
         ensures untouched { OnErr result (cells.new ≡ cells.old) }
     {
         let (rule, chart) = planned.into_parts();

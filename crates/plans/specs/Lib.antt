@@ -2,6 +2,7 @@ pub mod Refusals
 pub mod Contents
 pub mod Plans
 pub mod Limits
+pub mod Kept
 pub mod Reading
 pub mod Results
 pub mod Written

@@ -1,7 +1,6 @@
 // Playing a tape after its plan onto a sheet. docs/TAPE.md has the format.
 ghost use Rattle.std.specs.Prelude.{◌≡◌, ◌*◌, ◌≤◌, ◌==◌, length, MatchResult};
 ghost use Rattle.std.specs.List.{count_by};
-ghost use Rattle.plans.specs.Limits.{Limits};
 ghost use Rattle.plans.specs.Plans.{contents};
 ghost use Rattle.player.specs.Players.{setup, state};
 ghost use Rattle.tape.specs.Items.{entry};
@@ -86,8 +85,7 @@ fn play_tape<R: LockRule + Drop>(
     tape: &[u8],
     sheet: &mut [u8],
 ) -> Result<usize, Refusal>
-    requires room { 32 * length (lines tape.now) ≤ length sheet.old }
-    requires limits { Limits (R.meaning planned.rule) (contents planned.chart.plan) }
+    requires { 32 * length (lines tape.now) ≤ length sheet.old }
     ensures { MatchResult result (λ n. Put sheet.old 0 (tape_sheet (R.meaning planned.rule) (contents planned.chart.plan) tape.now) sheet.new n) (λ _. ⊥) }
 {
     let mut cells = [0; CELLS];

@@ -1,4 +1,3 @@
 pub mod Reports
 pub mod Sinks
-pub mod Kept
 pub mod Accepted

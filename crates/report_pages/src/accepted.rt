@@ -1,8 +1,8 @@
 // A plan that was accepted, and the rule that it was accepted under.
 ghost use Rattle.rules.specs.Numbered.{meaning_of};
+ghost use Rattle.plans.specs.Kept.{Limits-prop};
 ghost use Rattle.plans.specs.Limits.{Limits};
 ghost use Rattle.plans.specs.Plans.{contents};
-ghost use Rattle.report_pages.specs.Kept.{Limits-prop};
 
 use plans::Plan;
 use rules::NumberedRule;

@@ -13,7 +13,7 @@ returns g c =
     let meaning = g.R.LockRule.meaning in
     let planned = c.args.planned in
     let manager = c.in_ok-manager.manager in
-    let started = c.in_ok-manager.ensures.started c.requires.limits in
+    let started = c.in_ok-manager.ensures.started in
     subst (λ (text : List ℕ). MatchResult c.play_lines.result (λ n. Put c.args.sheet.now 0 text c.play_lines.new.sheet n) (λ _. ⊥))
     (same_play (setup_of meaning manager) (player_setup (meaning planned.rule) (contents planned.chart.plan)) _ (replicate 128 (pos 0)) (entries 0 (lines c.args.tape.now)) c.in_ok-manager.ensures.setup started.left)
     c.play_lines.ensures.sheet

@@ -4,6 +4,3 @@ use Rattle.charts.proofs.planned.Planned.read_whole.Goals as goal
 
 pub of-requires : goal.of-requires
 of-requires g c = let read = c.in_ok-plan.ensures in ((read.law (contents c.in_ok-plan.plan)).0 read.answer).1
-
-pub returns-clause-limits : goal.returns-clause-limits
-returns-clause-limits g c = let read = c.in_ok-plan.ensures in rw c.of.ensures.plan ((read.law (contents c.in_ok-plan.plan)).0 read.answer).1
