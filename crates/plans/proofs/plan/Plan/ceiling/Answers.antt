@@ -18,5 +18,5 @@ returns g c =
     let found = find_from_yields_List (attains m c.args.object c.args.mode c.ceiling-value.result) _ _ c.find-reason.result c.find-reason.ensures.ran (YieldsList-from_copied (YieldsList-from_slice plan.uses (search rules))) (λ x b q k. search (rules, tests)) in
     let reason : c.find-reason.result ≡ ceiling_reason m plan.uses c.args.object c.args.mode = rw value at (sym (option_map_id c.find-reason.result) ∙ found) in
     let object_there : ltb c.args.object (length plan.objects) ≡ true = rw c.objects.ensures at (lt-ltb _ _ c.if-object-objects.false) in
-    let mode_there : ltb c.args.mode m.modes ≡ true = rw c.modes.ensures at (lt-ltb _ _ c.if-mode-modes.false) in
+    let mode_there : ltb c.args.mode m.modes ≡ true = rw (c.from.ensures ∙ c.modes.ensures) at (lt-ltb _ _ c.if-mode-from.false) in
     record { answer = rw (value, reason, object_there, mode_there); law = rw (value, reason) (ceiling_law m c.args.object c.args.mode plan.uses) }
