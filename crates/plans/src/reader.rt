@@ -25,7 +25,7 @@ where
 {
     let mut items = ArrayVec::new();
     let mut rest = bytes;
-    while items.len() < count {
+    for _ in 0..count {
         let (item, after) = read(&items, rest)?;
         items.push(item);
         rest = after;
