@@ -117,6 +117,7 @@ impl Plan {
         let held = Held {
             rule,
             object,
+            // Below the rule's modes: `as` is proved to lose no bit, and `try_from` would add a refusal that cannot be.
             mode: mode as u8,
         };
         let value = held.ceiling(self.uses());
