@@ -106,7 +106,7 @@ impl<'a, R: LockRule> Manager<'a, R> {
             return Err(Refusal::NumberNotThere);
         }
         self.runs(task)?;
-        Ok(4 * object + part)
+        Ok(PARTS * object + part)
     }
 
     // The running task reads a part of an object.
