@@ -16,7 +16,7 @@ pub(crate) fn users_of(uses: &[Use]) -> [[u8; MODES]; MOST_OBJECTS]
 {
     let mut users = [[NO_TASK; MODES]; MOST_OBJECTS];
     for u in uses {
-        let (object, mode) = (u.object as usize, u.mode as usize);
+        let (object, mode) = (usize::from(u.object), usize::from(u.mode));
         users[object][mode] = u.task.min(users[object][mode]);
     }
     users
@@ -32,13 +32,13 @@ impl Chart {
     pub fn has_task(&self, task: u8) -> bool
         ensures { result ≡ nat_lt task (length (contents self.now.plan).rows) }
     {
-        (task as usize) < self.plan.rows().len()
+        usize::from(task) < self.plan.rows().len()
     }
 
     pub fn has_object(&self, object: u8) -> bool
         ensures { result ≡ nat_lt object (length (contents self.now.plan).objects) }
     {
-        (object as usize) < self.plan.objects().len()
+        usize::from(object) < self.plan.objects().len()
     }
 
     pub fn has_use(&self, task: u8, object: u8, mode: u8) -> bool
@@ -52,8 +52,8 @@ impl Chart {
         ensures { result ≡ highest_user (contents self.now.plan).uses object mode }
     {
         self.users
-            .get(object as usize)
-            .and_then(|tasks| tasks.get(mode as usize))
+            .get(usize::from(object))
+            .and_then(|tasks| tasks.get(usize::from(mode)))
             .copied()
             .unwrap_or(NO_TASK)
     }
@@ -62,6 +62,7 @@ impl Chart {
     pub fn ceiling<R: LockRule>(&self, rule: &R, object: u8, held: u8) -> u8
         ensures { result ≡ ceiling (R.meaning rule.now) (contents self.now.plan).uses object held }
     {
+        // MODES is 8: `as` is proved to lose no bit, and `try_from` would add a branch that cannot be.
         (0..MODES as u8)
             .filter(|wanted| rule.clashes(held, *wanted))
             .map(|wanted| self.user(object, wanted))

@@ -103,7 +103,7 @@ fn try_fusing<R: LockRule>(
     let _ = manager.lock(LOGGING, HEADING, READ);
     show(rt, fuse(manager, cells, 915))?;
     show(rt, fuse(manager, cells, 918))?;
-    if let Some(course) = cells.get(COURSE as usize) {
+    if let Some(course) = cells.get(usize::from(COURSE)) {
         println!(rt; "the course is {course}")?;
     }
     Ok(())

@@ -11,7 +11,7 @@ use charts::{holds, may_read, may_write, newest_blocker};
 use plans::Refusal;
 use protocol::{CELLS, Image, LockRecord};
 use roster::Turn;
-use rules::LockRule;
+use rules::{LockRule, PARTS};
 
 // There are 128 cells.
 pub(crate) fn enough(cells: &[i32]) -> Result<(), Refusal>
@@ -103,12 +103,11 @@ impl<'a, R: LockRule> Manager<'a, R> {
         ensures cell { IfOk result (λ cell. (cell ≡ cell_of object part) × (cell < length cells.now)) }
     {
         enough(cells)?;
-        // An object has four parts.
-        if !self.chart.has_object(object) || part >= 4 {
+        if !self.chart.has_object(object) || part >= PARTS {
             return Err(Refusal::NumberNotThere);
         }
         self.runs(task)?;
-        Ok(4 * object + part)
+        Ok(PARTS * object + part)
     }
 
     // The running task reads a part of an object.
@@ -119,7 +118,7 @@ impl<'a, R: LockRule> Manager<'a, R> {
         if !may_read(&self.rule, self.locks.as_slice(), task, object, part) {
             return Err(Refusal::NotCovered);
         }
-        Ok(cells[cell as usize])
+        Ok(cells[usize::from(cell)])
     }
 
     // The running task writes a part of an object; what the cell held goes into the journal.
@@ -137,11 +136,11 @@ impl<'a, R: LockRule> Manager<'a, R> {
         if !may_write(&self.rule, self.locks.as_slice(), task, object, part) {
             return Err(Refusal::NotCovered);
         }
-        let old = cells[cell as usize];
+        let old = cells[usize::from(cell)];
         self.journal
             .push(Image { task, cell, old })
             .map_err(|_| Refusal::JournalFull)?;
-        cells[cell as usize] = value;
+        cells[usize::from(cell)] = value;
         Ok(())
     }
 }

@@ -52,7 +52,7 @@ impl<'a, R: LockRule> Manager<'a, R> {
         let Some(task) = self.roster.running() else {
             return Ok(None);
         };
-        let budget = self.chart.plan().budget(task as usize);
+        let budget = self.chart.plan().budget(usize::from(task));
         self.roster.tick(task, budget)?;
         Ok(Some(task))
     }

@@ -40,7 +40,7 @@ impl<'a, R: LockRule> Held<'a, R> {
     fn excludes(&self, u: &Use) -> bool
         ensures { result ≡ excluded (R.meaning self.now.rule.now) self.now.object self.now.mode u.now }
     {
-        u.object as usize == self.object && self.rule.clashes(self.mode, u.mode)
+        usize::from(u.object) == self.object && self.rule.clashes(self.mode, u.mode)
     }
 
     fn ceiling(&self, uses: &[Use]) -> u8
@@ -74,10 +74,10 @@ impl<'a, R: LockRule> HeldUp<'a, R> {
     {
         let held = Held {
             rule: self.rule,
-            object: u.object as usize,
+            object: usize::from(u.object),
             mode: u.mode,
         };
-        self.task < u.task as usize && self.task >= held.ceiling(self.plan.uses()) as usize
+        self.task < usize::from(u.task) && self.task >= usize::from(held.ceiling(self.plan.uses()))
     }
 
     fn bound(&self) -> u16
@@ -87,7 +87,7 @@ impl<'a, R: LockRule> HeldUp<'a, R> {
             .uses()
             .iter()
             .filter(|u| self.is_delayed_by(u))
-            .map(|u| self.plan.budget(u.task as usize))
+            .map(|u| self.plan.budget(usize::from(u.task)))
             .max()
             .unwrap_or(0)
     }
@@ -96,7 +96,7 @@ impl<'a, R: LockRule> HeldUp<'a, R> {
     fn costs(&self, bound: u16, u: &Use) -> bool
         ensures { result ≡ costs (R.meaning self.now.rule.now) (contents self.now.plan.now) self.now.task bound u.now }
     {
-        self.is_delayed_by(u) && self.plan.budget(u.task as usize) == bound
+        self.is_delayed_by(u) && self.plan.budget(usize::from(u.task)) == bound
     }
 }
 
@@ -111,12 +111,13 @@ impl Plan {
         ensures answer { result ≡ ceiling_answer (R.meaning rule.now) (contents self.now) object mode }
         ensures law { IfOk result (λ c. CeilingLaw (R.meaning rule.now) (contents self.now).uses object mode c.value c.reason) }
     {
-        if object >= self.objects().len() || mode >= rule.modes() as usize {
+        if object >= self.objects().len() || mode >= usize::from(rule.modes()) {
             return Err(Refusal::NumberNotThere);
         }
         let held = Held {
             rule,
             object,
+            // Below the rule's modes: `as` is proved to lose no bit, and `try_from` would add a refusal that cannot be.
             mode: mode as u8,
         };
         let value = held.ceiling(self.uses());

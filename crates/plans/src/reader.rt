@@ -25,7 +25,7 @@ where
 {
     let mut items = ArrayVec::new();
     let mut rest = bytes;
-    while items.len() < count {
+    for _ in 0..count {
         let (item, after) = read(&items, rest)?;
         items.push(item);
         rest = after;
@@ -44,7 +44,7 @@ where
     let [count, rest @ ..] = bytes else {
         return Err(Refusal::PlanEnds);
     };
-    let count = *count as usize;
+    let count = usize::from(*count);
     if count < 1 || N < count {
         return Err(Refusal::CountOutOfLimits);
     }
@@ -130,7 +130,9 @@ impl Counts {
     fn has(&self, u: Use) -> bool
         ensures { result ≡ is_there self.now.tasks self.now.objects self.now.modes u }
     {
-        (u.task as usize) < self.tasks && (u.object as usize) < self.objects && u.mode < self.modes
+        usize::from(u.task) < self.tasks
+            && usize::from(u.object) < self.objects
+            && u.mode < self.modes
     }
 
     // A use, after the uses before it: its task, its object, its mode.
@@ -160,7 +162,7 @@ impl Counts {
         let [high, low, rest @ ..] = bytes else {
             return Err(Refusal::PlanEnds);
         };
-        let count = u16::from_be_bytes([*high, *low]) as usize;
+        let count = usize::from(u16::from_be_bytes([*high, *low]));
         if MOST_USES < count {
             return Err(Refusal::CountOutOfLimits);
         }

@@ -53,8 +53,8 @@ loop-u-preserved c =
     let there : u.object < length users = omega (arith, fits.0, known.long) in
     let row_long = known.rows u.object [] there in
     let in_row : u.mode < length row = omega (arith, fits.1, row_long) in
-    let least_is = c.min.ensures ∙ ap (min u.task) (sym (get_or_default_zero row u.mode 16 in_row) ∙ known.each u.object u.mode) in
-    record {
+    let least_is = (rw (c.from-object.ensures, c.from-mode.ensures) at c.min.ensures) ∙ ap (min u.task) (sym (get_or_default_zero row u.mode 16 in_row) ∙ known.each u.object u.mode) in
+    rw (c.from-object.ensures, c.from-mode.ensures) record {
       long = length-set users u.object (set row u.mode c.min.result) ∙ known.long;
       rows = All-set (λ row. length row ≡ 8) users u.object (set row u.mode c.min.result) (length-set row u.mode c.min.result ∙ row_long) known.rows;
       each = λ object mode.

@@ -1,6 +1,7 @@
 -- Value and reason are those of the definition, and so they keep the law.
-use Rattle.std.proofs.Common.{◌≡◌, true, ltb, length, ◌∙◌, rules, tests, sym}
+use Rattle.std.proofs.Common.{◌≡◌, true, ltb, length, ◌∙◌, rules, tests, sym, arith}
 use Rattle.std.proofs.lemmas.Bool.{lt-ltb}
+use Rattle.std.proofs.lemmas.Grind.{common_steps}
 use Rattle.std.proofs.lemmas.Iterator.{YieldsList-from_slice}
 use Rattle.std.proofs.lemmas.Iterator.Consumers.{YieldsList-from_copied}
 use Rattle.std.proofs.lemmas.Iterator.Adapters.{option_map_id}
@@ -17,6 +18,6 @@ returns g c =
     let value : c.ceiling-value.result ≡ ceiling m plan.uses c.args.object c.args.mode = search rules in
     let found = find_from_yields_List (attains m c.args.object c.args.mode c.ceiling-value.result) _ _ c.find-reason.result c.find-reason.ensures.ran (YieldsList-from_copied (YieldsList-from_slice plan.uses (search rules))) (λ x b q k. search (rules, tests)) in
     let reason : c.find-reason.result ≡ ceiling_reason m plan.uses c.args.object c.args.mode = rw value at (sym (option_map_id c.find-reason.result) ∙ found) in
-    let object_there : ltb c.args.object (length plan.objects) ≡ true = rw c.objects.ensures at (lt-ltb _ _ c.if-object-objects.false) in
-    let mode_there : ltb c.args.mode m.modes ≡ true = rw c.modes.ensures at (lt-ltb _ _ c.if-mode-modes.false) in
+    let object_there : ltb c.args.object (length plan.objects) ≡ true = search (arith, common_steps, lt-ltb) in
+    let mode_there : ltb c.args.mode m.modes ≡ true = search (arith, common_steps, lt-ltb) in
     record { answer = rw (value, reason, object_there, mode_there); law = rw (value, reason) (ceiling_law m c.args.object c.args.mode plan.uses) }
