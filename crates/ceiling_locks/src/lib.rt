@@ -19,10 +19,7 @@ fn minus(refusal: Refusal) -> i64
 fn in_numbers(r: Result<u32, Refusal>) -> i64
     ensures { result ≡ in_numbers r }
 {
-    match r {
-        Ok(n) => i64::from(n),
-        Err(refusal) => minus(refusal),
-    }
+    r.map_or_else(minus, i64::from)
 }
 
 // A number as C passes it: a negative one is not there.
@@ -84,8 +81,5 @@ pub fn play(rule: i64, input: &[u8], sheet: &mut [u8]) -> i64
     ensures sheet { PlaysInNumbers (play_numbered rule input.now (length sheet.old)) sheet.old sheet.new result }
     ensures laws { NumberedLaws rule input.now }
 {
-    match play_numbered(rule, input, sheet) {
-        Ok(written) => written as i64,
-        Err(refusal) => minus(refusal),
-    }
+    play_numbered(rule, input, sheet).map_or_else(minus, |written| written as i64)
 }
