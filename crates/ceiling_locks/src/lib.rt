@@ -3,7 +3,7 @@
 
 ghost use Rattle.std.specs.Prelude.{◌≡◌, length, Err};
 ghost use Rattle.player.specs.Numbered.{play_numbered, NumberedLaws};
-ghost use Rattle.ceiling_locks.specs.Numbers.{in_numbers, asked, under, check_under, ceiling_under, bound_under, PlaysInNumbers};
+ghost use Rattle.ceiling_locks.specs.Numbers.{in_numbers, asked, under, Accepts, check_under, ceiling_under, bound_under, PlaysInNumbers};
 
 use plans::{Plan, Refusal};
 use player::play_numbered;
@@ -29,19 +29,26 @@ fn asked(n: i64) -> Result<usize, Refusal>
     usize::try_from(n).map_err(|_| Refusal::NumberNotThere)
 }
 
+// The rule with this number, and the plan that is accepted under it.
+fn accepted(rule: i64, plan: &[u8]) -> Result<(NumberedRule, Plan), Refusal>
+    ensures { Accepts rule plan.now result }
+{
+    let rule = NumberedRule::try_from(rule)?;
+    let plan = Plan::read_whole(&rule, plan)?;
+    Ok((rule, plan))
+}
+
 fn check_under(rule: i64, plan: &[u8]) -> Result<u32, Refusal>
     ensures { result ≡ under rule (check_under plan.now) }
 {
-    let rule = NumberedRule::try_from(rule)?;
-    Plan::read_whole(&rule, plan)?;
+    accepted(rule, plan)?;
     Ok(0)
 }
 
 fn ceiling_under(rule: i64, plan: &[u8], object: i64, mode: i64) -> Result<u32, Refusal>
     ensures { result ≡ under rule (ceiling_under plan.now object mode) }
 {
-    let rule = NumberedRule::try_from(rule)?;
-    let plan = Plan::read_whole(&rule, plan)?;
+    let (rule, plan) = accepted(rule, plan)?;
     let ceiling = plan.ceiling(&rule, asked(object)?, asked(mode)?)?;
     Ok(u32::from(ceiling.value))
 }
@@ -49,8 +56,7 @@ fn ceiling_under(rule: i64, plan: &[u8], object: i64, mode: i64) -> Result<u32, 
 fn bound_under(rule: i64, plan: &[u8], task: i64) -> Result<u32, Refusal>
     ensures { result ≡ under rule (bound_under plan.now task) }
 {
-    let rule = NumberedRule::try_from(rule)?;
-    let plan = Plan::read_whole(&rule, plan)?;
+    let (rule, plan) = accepted(rule, plan)?;
     let bound = plan.bound(&rule, asked(task)?)?;
     Ok(u32::from(bound.value))
 }
