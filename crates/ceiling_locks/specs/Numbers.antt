@@ -1,10 +1,14 @@
 -- What the functions for C answer, as numbers. Assumes nothing.
-use Rattle.std.specs.Prelude.{◌≡◌, ℕ, List, ℤ, pos, negsuc, neg_ℤ, Some, None, Ok, Err, Option, Result}
+use Rattle.std.specs.Prelude.{◌≡◌, ℕ, List, ℤ, pos, negsuc, neg_ℤ, Some, None, Ok, Err, Option, Result, MatchResult}
 use Rattle.rules.specs.Meaning.{Meaning}
-use Rattle.rules.specs.Numbered.{numbered}
+use Rattle.rules.specs.Numbered.{numbered, meaning_of}
+use Rattle.rules.specs.declared.numbered.NumberedRule.{NumberedRule}
 use Rattle.plans.specs.Answers.{ceiling_answer, bound_answer}
+use Rattle.plans.specs.Contents.{Contents}
 use Rattle.plans.specs.Reading.{read_whole}
 use Rattle.plans.specs.Refusals.{number_of}
+use Rattle.plans.specs.Plans.{contents}
+use Rattle.plans.specs.declared.plan.Plan.{Plan}
 use Rattle.plans.specs.declared.ceilings.Bound.{Bound}
 use Rattle.plans.specs.declared.ceilings.Ceiling.{Ceiling}
 use Rattle.plans.specs.declared.refusal.Refusal.{Refusal}
@@ -33,6 +37,12 @@ by_rule None f = Err NumberNotThere
 
 abbrev pub under : {A : Type 0} → ℤ → (Meaning → Result A Refusal) → Result A Refusal
 under rule f = by_rule (numbered rule) f
+
+-- the rule with this number, and the plan that is accepted under it; a refusal is the answer whatever is asked of them
+abbrev pub Accepts : ℤ → List ℕ → Result (NumberedRule × Plan) Refusal → Type 0
+Accepts rule plan result =
+    MatchResult result (λ a. (numbered rule ≡ Some (meaning_of a.0)) × (read_whole (meaning_of a.0) plan ≡ Ok (contents a.1)))
+    (λ why. (ask : Meaning → Contents → Result ℕ Refusal) → under rule (λ m. and_then (read_whole m plan) (ask m)) ≡ Err why)
 
 -- 0 where the plan is accepted
 abbrev pub check_under : List ℕ → Meaning → Result ℕ Refusal

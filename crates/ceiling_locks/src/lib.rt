@@ -3,7 +3,7 @@
 
 ghost use Rattle.std.specs.Prelude.{◌≡◌, length, Err};
 ghost use Rattle.player.specs.Numbered.{play_numbered, NumberedLaws};
-ghost use Rattle.ceiling_locks.specs.Numbers.{in_numbers, asked, under, check_under, ceiling_under, bound_under, PlaysInNumbers};
+ghost use Rattle.ceiling_locks.specs.Numbers.{in_numbers, asked, under, Accepts, check_under, ceiling_under, bound_under, PlaysInNumbers};
 
 use plans::{Plan, Refusal};
 use player::play_numbered;
@@ -19,10 +19,7 @@ fn minus(refusal: Refusal) -> i64
 fn in_numbers(r: Result<u32, Refusal>) -> i64
     ensures { result ≡ in_numbers r }
 {
-    match r {
-        Ok(n) => i64::from(n),
-        Err(refusal) => minus(refusal),
-    }
+    r.map_or_else(minus, i64::from)
 }
 
 // A number as C passes it: a negative one is not there.
@@ -32,19 +29,26 @@ fn asked(n: i64) -> Result<usize, Refusal>
     usize::try_from(n).map_err(|_| Refusal::NumberNotThere)
 }
 
+// The rule with this number, and the plan that is accepted under it.
+fn accepted(rule: i64, plan: &[u8]) -> Result<(NumberedRule, Plan), Refusal>
+    ensures { Accepts rule plan.now result }
+{
+    let rule = NumberedRule::try_from(rule)?;
+    let plan = Plan::read_whole(&rule, plan)?;
+    Ok((rule, plan))
+}
+
 fn check_under(rule: i64, plan: &[u8]) -> Result<u32, Refusal>
     ensures { result ≡ under rule (check_under plan.now) }
 {
-    let rule = NumberedRule::try_from(rule)?;
-    Plan::read_whole(&rule, plan)?;
+    accepted(rule, plan)?;
     Ok(0)
 }
 
 fn ceiling_under(rule: i64, plan: &[u8], object: i64, mode: i64) -> Result<u32, Refusal>
     ensures { result ≡ under rule (ceiling_under plan.now object mode) }
 {
-    let rule = NumberedRule::try_from(rule)?;
-    let plan = Plan::read_whole(&rule, plan)?;
+    let (rule, plan) = accepted(rule, plan)?;
     let ceiling = plan.ceiling(&rule, asked(object)?, asked(mode)?)?;
     Ok(u32::from(ceiling.value))
 }
@@ -52,8 +56,7 @@ fn ceiling_under(rule: i64, plan: &[u8], object: i64, mode: i64) -> Result<u32, 
 fn bound_under(rule: i64, plan: &[u8], task: i64) -> Result<u32, Refusal>
     ensures { result ≡ under rule (bound_under plan.now task) }
 {
-    let rule = NumberedRule::try_from(rule)?;
-    let plan = Plan::read_whole(&rule, plan)?;
+    let (rule, plan) = accepted(rule, plan)?;
     let bound = plan.bound(&rule, asked(task)?)?;
     Ok(u32::from(bound.value))
 }
@@ -84,8 +87,5 @@ pub fn play(rule: i64, input: &[u8], sheet: &mut [u8]) -> i64
     ensures sheet { PlaysInNumbers (play_numbered rule input.now (length sheet.old)) sheet.old sheet.new result }
     ensures laws { NumberedLaws rule input.now }
 {
-    match play_numbered(rule, input, sheet) {
-        Ok(written) => written as i64,
-        Err(refusal) => minus(refusal),
-    }
+    play_numbered(rule, input, sheet).map_or_else(minus, |written| written as i64)
 }

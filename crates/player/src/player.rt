@@ -69,7 +69,7 @@ impl<R: LockRule> Player<'_, R> {
         ensures state { state self.new ≡ play_state (setup R.meaning self.old) (state self.old) (entries 0 (lines tape.now)) }
         ensures setup { setup R.meaning self.new ≡ setup R.meaning self.old }
     {
-        // The sheet is the caller's slice, filled up to here, as a library has no heap.
+        // The place is kept by hand, as the contract of `Write for &mut [u8]` does not say what the written bytes hold.
         let mut at = 0;
         for item in Tape::new(tape) {
             let answer = self.play_item(item);

@@ -1,10 +1,11 @@
 -- The lines of a sheet, and what it means to write at a place. docs/TAPE.md has the format. Assumes nothing.
-use Rattle.std.specs.Prelude.{◌≡◌, ℕ, ◌+◌, ◌^◌, ◌<◌, ◌≤◌, List, [], ◌∷◌, ◌++◌, length, take, drop, pos, negsuc, Some, None, codes, decimal, Option, FitsSigned, slice_index}
+use Rattle.std.specs.Prelude.{◌≡◌, ℕ, ◌+◌, ◌^◌, ◌<◌, ◌≤◌, List, [], ◌∷◌, ◌++◌, length, take, drop, pos, negsuc, Some, None, codes, decimal, Option, Result, MatchResult, is_ok, nat_le, FitsSigned, slice_index}
 use Rattle.std.specs.Int.{w32}
 use Rattle.std.specs.Str.Parse.{IsNumeral, digits_value}
 use Rattle.std.specs.Fmt.{signed_decimal}
 use Rattle.plans.specs.Refusals.{number_of}
-use Rattle.plans.specs.declared.refusal.Refusal.TheVariants.{BudgetSpent}
+use Rattle.plans.specs.declared.refusal.Refusal.{Refusal}
+use Rattle.plans.specs.declared.refusal.Refusal.TheVariants.{BudgetSpent, ShortSheet}
 use Rattle.protocol.specs.declared.words.Account.{Account}
 use Rattle.protocol.specs.declared.words.Answer.{Answer}
 use Rattle.protocol.specs.declared.words.Answer.TheVariants.{Open, Granted, Wait, Value, Written, Closed, Dropped, Ran, Idle, Refused}
@@ -17,6 +18,11 @@ written before at text = take at before ++ (text ++ drop (at + length text) befo
 pub record Put (before : List ℕ) (at : ℕ) (text after : List ℕ) (end : ℕ) : Type 0 where
   pub bytes : after ≡ written before at text
   pub behind : end ≡ at + length text
+
+-- the text is put where there is room for `most` bytes from the place on; else the sheet is as it was, and is refused as short
+pub record Writes (most : ℕ) (before : List ℕ) (at : ℕ) (text after : List ℕ) (result : Result ℕ Refusal) : Type 0 where
+  pub put : MatchResult result (λ end. Put before at text after end) (λ why. (why ≡ ShortSheet) × (after ≡ before))
+  pub room : is_ok result ≡ nat_le (at + most) (length before)
 
 -- a line with a text more, where the line has room for it
 pub record Adds (line text after : List ℕ) : Type 0 where

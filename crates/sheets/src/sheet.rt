@@ -1,8 +1,7 @@
 // Writing the lines of a sheet into lent bytes.
-ghost use Rattle.std.specs.Prelude.{◌≡◌, ◌+◌, ◌<◌, ◌≤◌, length, is_ok, MatchResult, nat_le};
-ghost use Rattle.plans.specs.declared.refusal.Refusal.TheVariants.{ShortSheet};
+ghost use Rattle.std.specs.Prelude.{◌≤◌, length};
 ghost use Rattle.std.specs.Fmt.{signed_decimal};
-ghost use Rattle.sheets.specs.Sheets.{Put, sheet_line, SheetLaws, SheetExamples};
+ghost use Rattle.sheets.specs.Sheets.{Writes, sheet_line, SheetLaws, SheetExamples};
 
 use crate::line::{Line, MOST_LINE};
 use itoa::Buffer;
@@ -15,8 +14,7 @@ pub const MOST_NUMBER: usize = 11;
 // Writes a text from `at` on, where there is room for `most` bytes. The answer, here and below, is the place behind it.
 fn write_text(sheet: &mut [u8], at: usize, text: &[u8], most: usize) -> Result<usize, Refusal>
     requires { length text.now ≤ most }
-    ensures text { MatchResult result (λ end. Put sheet.old at text.now sheet.new end) (λ why. (why ≡ ShortSheet) × (sheet.new ≡ sheet.old)) }
-    ensures room { is_ok result ≡ nat_le (at + most) (length sheet.old) }
+    ensures { Writes most sheet.old at text.now sheet.new result }
 {
     let len = sheet.len();
     if len < most || len - most < at {
@@ -34,8 +32,7 @@ pub fn write_line(
     answer: Answer,
     running: Option<u8>,
 ) -> Result<usize, Refusal>
-    ensures line { MatchResult result (λ end. Put sheet.old at (sheet_line answer running) sheet.new end) (λ why. (why ≡ ShortSheet) × (sheet.new ≡ sheet.old)) }
-    ensures room { is_ok result ≡ nat_le (at + 32) (length sheet.old) }
+    ensures line { Writes 32 sheet.old at (sheet_line answer running) sheet.new result }
     ensures law { SheetLaws }
     ensures examples { SheetExamples }
 {
@@ -45,8 +42,7 @@ pub fn write_line(
 
 // Writes a number from `at` on.
 pub fn write_number(sheet: &mut [u8], at: usize, number: i32) -> Result<usize, Refusal>
-    ensures number { MatchResult result (λ end. Put sheet.old at (signed_decimal number) sheet.new end) (λ why. (why ≡ ShortSheet) × (sheet.new ≡ sheet.old)) }
-    ensures room { is_ok result ≡ nat_le (at + 11) (length sheet.old) }
+    ensures { Writes 11 sheet.old at (signed_decimal number) sheet.new result }
 {
     let mut digits = Buffer::new();
     write_text(sheet, at, digits.format(number).as_bytes(), MOST_NUMBER)

@@ -9,5 +9,5 @@ use Rattle.pages.proofs.page.Page.add_padded.Goals as goal
 
 pub returns-in-Ok : goal.returns-in-Ok
 returns-in-Ok c =
-    let put : Put (replicate 11 32) 0 (signed_decimal c.args.number) c.write_number.new.sheet c.in-Ok.end = rw (to_z-of_z w32 c.args.number c.ranges.number) at c.in-Ok.ensures.number in
+    let put : Put (replicate 11 32) 0 (signed_decimal c.args.number) c.write_number.new.sheet c.in-Ok.end = rw (to_z-of_z w32 c.args.number c.ranges.number) at c.in-Ok.ensures.put in
     subst (λ text. Added c.args.self.now text c.add.new.self) (blanks_behind _ _ _ c.args.width put c.write_number.auto.sheet (omega arith)) c.add.ensures

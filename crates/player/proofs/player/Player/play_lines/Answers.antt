@@ -31,7 +31,7 @@ loop-item-preserved g c =
     let task : TaskWithin c.running.result = search rules in
     let written = c.in_ok-at.ensures in (
       c.play_item-answer.ensures.setup ∙ same,
-      fill_more fixed c.args.sheet.now c.loop-item.sheet _ c.loop-item.at _ s _ item _ all _ _ so_far answered leaves c.running.ensures (written.law.short _ _ within task) written.line c.write_line.auto.sheet,
+      fill_more fixed c.args.sheet.now c.loop-item.sheet _ c.loop-item.at _ s _ item _ all _ _ so_far answered leaves c.running.ensures (written.law.short _ _ within task) written.line.put c.write_line.auto.sheet,
       ap (λ (t : State). play_state fixed t (to_come c.next.new.self)) leaves ∙ ap (play_state fixed s) (sym given) ∙ c.loop-item.invariant.2,
       (tt, tt),
     )
@@ -39,7 +39,7 @@ loop-item-preserved g c =
 -- there is room for every line
 pub returns-in_err-at : goal.returns-in_err-at
 returns-in_err-at g c =
-    absurd (omega (arith, leb-false _ _ (sym c.in_err-at.ensures.room), c.loop-item.invariant.1.room, ap length c.in-Some.ensures.steps))
+    absurd (omega (arith, leb-false _ _ (sym c.in_err-at.ensures.line.room), c.loop-item.invariant.1.room, ap length c.in-Some.ensures.steps))
 
 pub returns : goal.returns
 returns g c =
