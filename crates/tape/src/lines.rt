@@ -7,7 +7,7 @@ ghost use Rattle.tape.specs.Written.{ReadsExactly, LineExamples};
 use crate::numbers::{read_field, read_value};
 use protocol::Call;
 
-// The first three fields of a line that has them.
+// The first three fields of a line that has them. A call takes them one by one, as the third has another name in each.
 #[derive(Clone, Copy, Debug, PartialEq, Eq)]
 pub(crate) struct Three {
     pub task: u8,
