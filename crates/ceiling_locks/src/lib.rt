@@ -87,5 +87,6 @@ pub fn play(rule: i64, input: &[u8], sheet: &mut [u8]) -> i64
     ensures sheet { PlaysInNumbers (play_numbered rule input.now (length sheet.old)) sheet.old sheet.new result }
     ensures laws { NumberedLaws rule input.now }
 {
+    // No sheet is so long: `as` is proved to lose no bit.
     play_numbered(rule, input, sheet).map_or_else(minus, |written| written as i64)
 }

@@ -46,6 +46,7 @@ fn add_ceiling_reason<S: Sink>(sink: &mut S, reason: Option<Use>) -> Result<(), 
     }
 }
 
+// A plan's numbers are small: each `as` below is proved to lose no bit.
 // Each table has a loop of its own: a closure for its line, given to one function, would say again what the loop's body promises.
 impl Accepted {
     fn add_objects<S: Sink>(&self, sink: &mut S) -> Result<(), S::Error>

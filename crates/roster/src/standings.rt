@@ -64,6 +64,7 @@ impl Roster {
         ensures { result ≡ running (tasks_of self.now) }
     {
         // With no bit set it is 16, and no task has that number.
+        // At most 16: `as` is proved to lose no bit.
         let place = self.served().trailing_zeros() as u8;
         self.tasks
             .get(usize::from(place))
