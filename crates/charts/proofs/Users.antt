@@ -53,13 +53,13 @@ module _ (m : Meaning) (object held : ℕ) where
         both_false : (a b : ℕ) → (a ≡ b → ⊥) → (eqb u.object object && eqb a b) ≡ false
         both_false a b apart = elim (cases_Bool (eqb u.object object)) [ inl e ↦ rw (e, ne_eqb a b apart) | inr e ↦ rw e ]
 
-  -- with 8 modes all that can clash are met
-  pub ceiling_over : Lawful m → (n : ℕ) → 8 ≤ n → (uses : List Use) → ceiling m uses object held ≡ over_modes m uses object held 0 n
+  -- with the rule's modes all that can clash are met
+  pub ceiling_over : Lawful m → (n : ℕ) → m.modes ≤ n → (uses : List Use) → ceiling m uses object held ≡ over_modes m uses object held 0 n
   ceiling_over lawful n enough [] = sym (over_none 0 n)
   ceiling_over lawful n enough (u ∷ us) = elim (cases_Bool (excluded m object held u)) [
     | inl met ↦ (
         let (same, clash) = and_parts (eqb u.object object) (m.clashes held u.mode) met in
-        let there : u.mode < n = ⊎_elim (λ (l : u.mode < n). l) (λ (past : n ≤ u.mode). absurd (both_ways (m.clashes held u.mode) (lawful.no_clash_wanted held u.mode (omega (arith, lawful.few_modes))) clash)) (cases_lt u.mode n) in
+        let there : u.mode < n = ⊎_elim (λ (l : u.mode < n). l) (λ (past : n ≤ u.mode). absurd (both_ways (m.clashes held u.mode) (lawful.no_clash_wanted held u.mode (omega arith)) clash)) (cases_lt u.mode n) in
         rw met (ap (min u.task) (ceiling_over lawful n enough us) ∙ sym (over_meet u us 0 n (eqb-true u.object object same) (omega arith) (omega arith) clash)))
     | inr not-met ↦ rw not-met (ceiling_over lawful n enough us ∙ sym (over_skip u us 0 n (λ w _ _ clash. unmet u w clash not-met)))
   ]

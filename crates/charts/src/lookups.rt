@@ -62,8 +62,7 @@ impl Chart {
     pub fn ceiling<R: LockRule>(&self, rule: &R, object: u8, held: u8) -> u8
         ensures { result ≡ ceiling (R.meaning rule.now) (contents self.now.plan).uses object held }
     {
-        // MODES is 8: `as` is proved to lose no bit, and `try_from` would add a branch that cannot be.
-        (0..MODES as u8)
+        (0..rule.modes())
             .filter(|wanted| rule.clashes(held, *wanted))
             .map(|wanted| self.user(object, wanted))
             .fold(NO_TASK, u8::min)
