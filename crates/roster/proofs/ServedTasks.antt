@@ -1,9 +1,9 @@
 -- Places and the served word: the first that waits, what a place names, and the bits added up. Assumes nothing.
-use Rattle.std.proofs.Common.{◌≡◌, ℕ, suc, ◌+◌, ◌*◌, ◌%◌, ◌^◌, ◌<◌, ◌≤◌, min, Bool, true, false, cond, ◌&&◌, eqb, List, [], ◌∷◌, length, ltb, Some, None, Option, filter, zero, sym, refl, ap, ◌∙◌, inl, inr, mod-eq_of_lt, pow-suc, add-one, arith}
+use Rattle.std.proofs.Common.{◌≡◌, ℕ, suc, ◌+◌, ◌*◌, ◌%◌, ◌^◌, ◌<◌, ◌≤◌, min, Bool, true, false, cond, ◌&&◌, eqb, List, [], ◌∷◌, length, ltb, Some, None, Option, zero, sym, refl, ap, ◌∙◌, inl, inr, mod-eq_of_lt, pow-suc, add-one, arith}
+use lib.Bits.{bit_or, or_shifted_r}
 use lib.Count.{count_trailing_zeros, trailing_of_zero}
 use lib.Pow.{pow-lt}
-use Rattle.std.specs.List.{position, position_or_len, range_with_len, sum_by}
-use Rattle.std.proofs.lemmas.List.Sums.{sum_by-cons}
+use Rattle.std.specs.List.{position, position_or_len, range_with_len, fold}
 use Rattle.std.specs.Option.{unwrap_or}
 use Rattle.std.proofs.lemmas.Bool.Decides.{nat_tests}
 use Rattle.std.proofs.lemmas.Bool.{cases_Bool, both_ways, and_parts, eqb-true, eq-eqb, lt-ltb, le-ltb}
@@ -46,35 +46,29 @@ place_of_named tasks whole k = elim (cases_Bool (has_place tasks k 0 tasks)) [
     not_both : {x y : Bool} → (x ≡ true → y ≡ true → ⊥) → (x && y) ≡ false
     not_both {x} {y} no_way = elim (cases_Bool (x && y)) [ inr e ↦ e | inl e ↦ absurd (no_way (and_parts x y e).0 (and_parts x y e).1) ]
 
--- of n numbers from k on, the places of ready tasks
-abbrev pub places : List Task → ℕ → ℕ → List ℕ
-places tasks k n = filter (λ p. has_place tasks p 0 tasks) (range_with_len k n)
+-- the word with the bit of a number that is a place
+abbrev pub with_bit : List Task → ℕ → ℕ → ℕ
+with_bit tasks word k = cond (has_place tasks k 0 tasks) (bit_or word (1 * 2 ^ k % 65536)) word
 
--- 1 shifted by the place, in 16 bits
-abbrev pub bit : ℕ → ℕ
-bit p = 1 * 2 ^ p % 65536
+-- a bit above those of the word is added to it
+module _ (tasks : List Task) (k word : ℕ) (left : k < 16) (small : word < 2 ^ k) where
+  bit_added : (with_bit tasks word k < 2 ^ (k + 1)) × (with_bit tasks word k ≡ word + cond (has_place tasks k 0 tasks) (2 ^ k) 0)
+  bit_added =
+      let fits : 1 * 2 ^ k % 65536 ≡ 1 * 2 ^ k = mod-eq_of_lt (omega (arith, pow-lt left)) in
+      let joined : bit_or word (1 * 2 ^ k % 65536) ≡ word + 2 ^ k = ap (bit_or word) fits ∙ (or_shifted_r 1 k word small ∙ omega arith) in
+      let twice : 2 ^ (k + 1) ≡ 2 ^ k * 2 = ap (λ n. 2 ^ n) (add-one k) ∙ pow-suc 2 k in
+      elim (cases_Bool (has_place tasks k 0 tasks)) [
+        | inl had ↦ rw had (omega (arith, joined, twice), joined)
+        | inr none ↦ rw none (omega (arith, twice), omega arith)
+      ]
 
--- their bits, added up
-pub served_sum : (tasks : List Task) (k n : ℕ) → k + n ≤ 16 → sum_by bit (places tasks k n) ≡ served_from tasks k n
-served_sum tasks k zero l = refl
-served_sum tasks k (suc n) l =
-    let fits : bit k ≡ 2 ^ k = mod-eq_of_lt (omega (arith, pow-lt {i = k} {j = 16} (omega arith))) ∙ omega arith in
-    let rest = rw add-one at (served_sum tasks (k + 1) n (omega arith)) in
-    elim (cases_Bool (has_place tasks k 0 tasks)) [
-      | inl had ↦ rw (had, add-one) (omega (arith, fits, rest, sum_by-cons bit k (places tasks (suc k) n)))
-      | inr none ↦ rw (none, add-one) (omega (arith, rest))
-    ]
-
--- they fit n bits
-pub served_fits : (tasks : List Task) (k n : ℕ) → served_from tasks k n + 2 ^ k ≤ 2 ^ (k + n)
-served_fits tasks k zero = let same : k + 0 ≡ k = omega arith in rw same (omega arith)
-served_fits tasks k (suc n) =
-    let rest = served_fits tasks (suc k) n in
-    let same : suc k + n ≡ k + suc n = omega arith in
-    elim (cases_Bool (has_place tasks k 0 tasks)) [
-      | inl had ↦ rw had (omega (arith, pow-suc 2 k, rw same at rest))
-      | inr none ↦ rw none (omega (arith, pow-suc 2 k, rw same at rest))
-    ]
+-- the bits of n numbers from k on
+pub served_fold : (tasks : List Task) (k n word : ℕ) → k + n ≤ 16 → word < 2 ^ k → fold (with_bit tasks) word (range_with_len k n) ≡ word + served_from tasks k n
+served_fold tasks k zero word l small = omega arith
+served_fold tasks k (suc n) word l small =
+    let (less, added) = bit_added tasks k word (omega arith) small in
+    let rest = rw add-one at (served_fold tasks (k + 1) n (with_bit tasks word k) (omega arith) less) in
+    rw add-one (rest ∙ omega (arith, added))
 
 -- the lowest bit of the served word tells who runs
 pub running_at : (tasks : List Task) → length tasks ≡ 16 → (let p = count_trailing_zeros 16 (served tasks) in running tasks ≡ cond (ltb p 16) (Some (named_by (standing_at tasks p) p)) None)

@@ -52,10 +52,13 @@ impl Roster {
         ensures { result ≡ served (tasks_of self.now) }
     {
         // A bit for each of the 16 tasks.
-        (0..16)
-            .filter(|k| self.is_place(*k))
-            .map(|k| 1u16 << k)
-            .sum()
+        (0..16).fold(0, |word, k| {
+            if self.is_place(k) {
+                word | 1 << k
+            } else {
+                word
+            }
+        })
     }
 
     // The lowest bit of the served word is the running task's place, and the place names the task.
