@@ -3,6 +3,7 @@
 
 use report_pages::page_on;
 use reports::report_on;
+use std::io::Write;
 use std::{array, io};
 
 // The read/write rule's byte and the worked plan.
@@ -102,12 +103,14 @@ fn use_byte(at: usize) -> u8 {
 
 fn show_longest(rt: &HostRuntime) -> io::Result<()> {
     let input: [u8; LONGEST] = array::from_fn(longest_byte);
-    let text = report_on(rt.alloc(), &input)?;
+    // Shown from the page, which needs no memory; the `String` is made after that, and compared.
+    let page = page_on(&input);
+    let text = page.as_slice();
     println!(rt; "{} bytes, and at their end:", text.len())?;
-    if let Some(line) = text.lines().last() {
-        println!(rt; "{line}")?;
+    if let Some(line) = text.split_inclusive(|byte| *byte == b'\n').last() {
+        rt.stdout().write_all(line)?;
     }
-    compare(rt, &input, &text)
+    compare(rt, &input, &report_on(rt.alloc(), &input)?)
 }
 
 // Says so where the report on a page is another than this one.
