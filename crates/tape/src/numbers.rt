@@ -1,29 +1,34 @@
 // Reading the numbers of a tape line. docs/TAPE.md has the format.
+ghost use Rattle.std.specs.Prelude.{◌≤◌, IfSome};
 ghost use Rattle.tape.specs.Numbers.{digits_after, read_number, read_field, below_zero, not_below_zero, read_signed, read_value, IsRead};
 
-// The digits at the front, as far as they go, where their number fits.
-fn read_digits(bytes: &[u8]) -> Option<(u32, &[u8])>
-    ensures { IsRead (digits_after 4294967295 0 bytes.now) result }
+// The digits at the front, as far as they go, where their number stays within `most`.
+fn read_digits(bytes: &[u8], most: u32) -> Option<(u32, &[u8])>
+    ensures number { IsRead (digits_after most 0 bytes.now) result }
+    ensures within { IfSome result (λ p. p.0 ≤ most) }
 {
-    let mut number: u32 = 0;
+    // Ten times a number within `most` and a digit more fits 64 bits.
+    let mut number: u64 = 0;
     let mut rest = bytes;
     // A loop of its own, as `parse` also takes `+5` and `007`, which are no numbers of a tape.
     while let [digit @ b'0'..=b'9', after @ ..] = rest {
-        number = number
-            .checked_mul(10)?
-            .checked_add(u32::from(*digit - b'0'))?;
+        number = number * 10 + u64::from(*digit - b'0');
+        if u64::from(most) < number {
+            return None;
+        }
         rest = after;
     }
-    Some((number, rest))
+    Some((number as u32, rest))
 }
 
 // The number at the front: digits without a leading zero.
-fn read_number(bytes: &[u8]) -> Option<(u32, &[u8])>
-    ensures { IsRead (read_number 4294967295 bytes.now) result }
+fn read_number(bytes: &[u8], most: u32) -> Option<(u32, &[u8])>
+    ensures number { IsRead (read_number most bytes.now) result }
+    ensures within { IfSome result (λ p. p.0 ≤ most) }
 {
     match bytes {
         [b'0', rest @ ..] => Some((0, rest)),
-        [b'1'..=b'9', ..] => read_digits(bytes),
+        [b'1'..=b'9', ..] => read_digits(bytes, most),
         _ => None,
     }
 }
@@ -35,8 +40,9 @@ pub(crate) fn read_field(bytes: &[u8]) -> Option<(u8, &[u8])>
     let [b' ', number @ ..] = bytes else {
         return None;
     };
-    let (number, rest) = read_number(number)?;
-    Some((u8::try_from(number).ok()?, rest))
+    // The limit is that of a byte, so `as` loses no bit, and no field is tried twice.
+    let (number, rest) = read_number(number, 255)?;
+    Some((number as u8, rest))
 }
 
 // The value at the front, after its space; it alone may have a minus.
@@ -62,7 +68,7 @@ fn read_signed(bytes: &[u8]) -> Option<(i32, &[u8])>
 fn read_below_zero(bytes: &[u8]) -> Option<(i32, &[u8])>
     ensures { IsRead (below_zero (read_number 2147483648 bytes.now)) result }
 {
-    let (magnitude, rest) = read_number(bytes)?;
+    let (magnitude, rest) = read_number(bytes, 2147483648)?;
     if magnitude == 0 {
         return None;
     }
@@ -72,6 +78,6 @@ fn read_below_zero(bytes: &[u8]) -> Option<(i32, &[u8])>
 fn read_not_below_zero(bytes: &[u8]) -> Option<(i32, &[u8])>
     ensures { IsRead (not_below_zero (read_number 2147483647 bytes.now)) result }
 {
-    let (magnitude, rest) = read_number(bytes)?;
+    let (magnitude, rest) = read_number(bytes, 2147483647)?;
     Some((i32::try_from(magnitude).ok()?, rest))
 }
