@@ -14,12 +14,23 @@ pub fn holds(locks: &[LockRecord], task: u8, object: u8, mode: u8) -> bool
     locks.contains(&LockRecord { task, object, mode })
 }
 
+// Whether one of them passes. The test is named here, as it is not in the contract of `any`, so that callers need no proof of their own.
+pub(crate) fn some_passes<T, F: Fn(&T) -> bool>(items: &[T], passes: F) -> bool
+    requires { F.IsAlwaysCallable passes }
+    ensures { (test : T → Bool) → ((item : _) (answer : Bool) → F.post passes item answer → answer ≡ test item.now) → result ≡ any test items.now }
+{
+    items.iter().any(|item| passes(item))
+}
+
 // Whether the task has the object in a mode that passes.
 fn covers<F: Fn(u8) -> bool>(locks: &[LockRecord], task: u8, object: u8, mode_passes: F) -> bool
     requires { F.IsAlwaysCallable mode_passes }
     ensures { (passes : ℕ → Bool) → ((mode : ℕ) (answer : Bool) → F.post mode_passes mode answer → answer ≡ passes mode) → result ≡ any (covers passes task object) locks.now }
 {
-    locks.iter().any(|r| r.task == task && r.object == object && mode_passes(r.mode))
+    some_passes(
+        locks,
+        |r| r.task == task && r.object == object && mode_passes(r.mode),
+    )
 }
 
 // Whether the task has the object in a mode that reads the part.
