@@ -1,7 +1,8 @@
 -- Adding one text after another. Assumes nothing.
-use Rattle.std.proofs.Common.{◌≡◌, ℕ, zero, suc, ◌+◌, ◌-◌, ◌≤◌, min, max, List, [], ◌∷◌, ◌++◌, length, take, drop, replicate, sym, refl, ap, ◌∙◌, arith}
+use Rattle.std.proofs.Common.{◌≡◌, ℕ, zero, suc, ◌+◌, ◌-◌, ◌≤◌, min, max, List, [], ◌∷◌, ◌++◌, length, take, drop, replicate, sym, refl, ap, ◌∙◌, Some, Result, Ok, arith}
+use Rattle.std.specs.Io.KnownBytes.{WriteAppends}
 use lib.Seq.{take-append-add}
-use Rattle.std.proofs.lemmas.List.{append_assoc, append-nil, length-append, take_all, drop-replicate, take-replicate}
+use Rattle.std.proofs.lemmas.List.{append_assoc, append-nil, length-append, take_all, take_min, drop-replicate, take-replicate}
 use Rattle.sheets.specs.Sheets.{Put}
 use Rattle.pages.specs.Pages.{text_of, Added, padded}
 use Rattle.pages.specs.declared.page.Page.{Page}
@@ -29,3 +30,10 @@ blanks_behind text cells end width {n} put kept most =
     let split : n ≡ length text + blanks = omega (arith, most, put.behind) in
     let fits : blanks ≤ 11 - (0 + length text) = omega arith in
     rw (put.bytes, split, drop-replicate, take-append-add, take-replicate)
+
+-- a writer that took as much of the text as there was room for wrote it behind what it held
+pub written_behind : {E : Type 0} (old text : List ℕ) {new : List ℕ} {answer : Result ℕ E} → length old ≤ 8192 → answer ≡ Ok (min (8192 - length old) (length text)) → WriteAppends (Some old) (Some new) answer text → new ≡ take 8192 (old ++ text)
+written_behind old text fits count bytes =
+    let room = 8192 - length old in
+    let whole : length old + room ≡ 8192 = omega (arith, fits) in
+    (rw count at bytes) ∙ ap (λ l. old ++ l) (take_min room text) ∙ sym (take-append-add old text room) ∙ ap (λ n. take n (old ++ text)) whole
