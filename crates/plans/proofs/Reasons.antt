@@ -66,6 +66,12 @@ module _ (passes : Use → Bool) (value : Use → ℕ) (pick : ℕ → ℕ → �
         | false ↦ best_folds swap assoc us a
       ]
 
+  -- and the chain that tests each use where it takes it
+  folds_passing : (us : List Use) (a : ℕ) → fold (λ b u. cond (passes u) (pick b (value u)) b) a us ≡ fold (λ b u. pick b (value u)) a (filter passes us)
+  folds_passing [] a = refl
+  folds_passing (u ∷ us) a =
+      elim (passes u) as (λ b. fold (λ b u. cond (passes u) (pick b (value u)) b) (cond b (pick a (value u)) a) us ≡ fold (λ b u. pick b (value u)) a (cond b (u ∷ filter passes us) (filter passes us))) [ true ↦ folds_passing us (pick a (value u)) | false ↦ folds_passing us a ]
+
   -- no use that passes has a better one
   best_bounds : (R : ℕ → ℕ → Type 0) → ((a b : ℕ) → R (pick a b) a) → ((a b c : ℕ) → R b c → R (pick a b) c) → (us : List Use) (u : Use) → ContainsAt us u → passes u ≡ true → R (best us) (value u)
   best_bounds R first more [] u h e = absurd (has_none u h)
@@ -114,8 +120,8 @@ module _ (m : Meaning) (object held : ℕ) where
   ceiling_le [] = omega arith
   ceiling_le (u ∷ us) = elim (excluded m object held u) as (λ b. cond b (min u.task (ceiling m us object held)) (ceiling m us object held) ≤ 16) [ true ↦ omega (arith, ceiling_le us) | false ↦ ceiling_le us ]
 
-  pub ceiling_by_min : (us : List Use) → fold (λ a u. min a u.task) 16 (filter (excluded m object held) us) ≡ ceiling m us object held
-  ceiling_by_min us = omega (arith, best_folds (excluded m object held) (λ u. u.task) min 16 (λ a b c. omega arith) (λ a b c. omega arith) us 16, ceiling_is us, ceiling_le us)
+  pub ceiling_by_min : (us : List Use) → fold (λ a u. cond (excluded m object held u) (min a u.task) a) 16 us ≡ ceiling m us object held
+  ceiling_by_min us = folds_passing (excluded m object held) (λ u. u.task) min 16 us 16 ∙ omega (arith, best_folds (excluded m object held) (λ u. u.task) min 16 (λ a b c. omega arith) (λ a b c. omega arith) us 16, ceiling_is us, ceiling_le us)
 
   lowest_or : (a b : ℕ) → (min a b ≡ a) ⊎ (min a b ≡ b)
   lowest_or a b = ⊎_elim (λ (l : a < b). inl (omega arith)) (λ (l : b ≤ a). inr (omega arith)) (cases_lt a b)

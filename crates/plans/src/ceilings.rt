@@ -46,9 +46,14 @@ impl<'a, R: LockRule> Held<'a, R> {
     fn ceiling(&self, uses: &[Use]) -> u8
         ensures { result ≡ ceiling (R.meaning self.now.rule.now) uses.now self.now.object self.now.mode }
     {
-        uses.iter()
-            .filter(|u| self.excludes(u))
-            .fold(NO_TASK, |least, u| least.min(u.task))
+        // One closure for the test and the minimum: a filter before the fold would be a loop within the loop.
+        uses.iter().fold(NO_TASK, |least, u| {
+            if self.excludes(u) {
+                least.min(u.task)
+            } else {
+                least
+            }
+        })
     }
 
     // Whether the use is a reason for the ceiling.
@@ -121,7 +126,7 @@ impl Plan {
             mode: mode as u8,
         };
         let value = held.ceiling(self.uses());
-        let reason = self.uses().iter().copied().find(|u| held.attains(value, u));
+        let reason = self.uses().iter().find(|u| held.attains(value, u)).copied();
         Ok(Ceiling { value, reason })
     }
 
@@ -142,8 +147,8 @@ impl Plan {
         let reason = self
             .uses()
             .iter()
-            .copied()
-            .find(|u| held_up.costs(value, u));
+            .find(|u| held_up.costs(value, u))
+            .copied();
         Ok(Bound { value, reason })
     }
 }
