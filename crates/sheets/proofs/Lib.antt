@@ -1,3 +1,3 @@
-pub mod Adding
+pub mod Written
 pub mod Lengths
 pub mod Examples

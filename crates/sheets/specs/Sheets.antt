@@ -9,6 +9,7 @@ use Rattle.plans.specs.declared.refusal.Refusal.TheVariants.{BudgetSpent, ShortS
 use Rattle.protocol.specs.declared.words.Account.{Account}
 use Rattle.protocol.specs.declared.words.Answer.{Answer}
 use Rattle.protocol.specs.declared.words.Answer.TheVariants.{Open, Granted, Wait, Value, Written, Closed, Dropped, Ran, Idle, Refused}
+use Rattle.sheets.specs.declared.line.Line.{Line}
 
 -- bytes with a text written over them from a place on
 abbrev pub written : List ℕ → ℕ → List ℕ → List ℕ
@@ -24,9 +25,11 @@ pub record Writes (most : ℕ) (before : List ℕ) (at : ℕ) (text after : List
   pub put : MatchResult result (λ end. Put before at text after end) (λ why. (why ≡ ShortSheet) × (after ≡ before))
   pub room : is_ok result ≡ nat_le (at + most) (length before)
 
--- a line with a text more, where the line has room for it
-pub record Adds (line text after : List ℕ) : Type 0 where
-  pub says : length line + length text ≤ 32 → after ≡ line ++ text
+-- a line with a text more, in the same lent bytes
+pub record Adds (before : Line) (text : List ℕ) (after : Line) : Type 0 where
+  pub put : Put before.sheet.now before.end text after.sheet.now after.end
+  pub room : length after.sheet.now ≡ length before.sheet.now
+  pub same : after.sheet.ghost_name ≡ before.sheet.ghost_name
 
 -- a task, or a dash where there is none
 abbrev pub task_text : Option ℕ → List ℕ

@@ -4,5 +4,4 @@
 mod line;
 mod sheet;
 
-pub use line::MOST_LINE;
-pub use sheet::{MOST_NUMBER, write_line, write_number};
+pub use sheet::{MOST_LINE, MOST_NUMBER, write_line, write_number};

@@ -1,31 +1,31 @@
 // Writing the lines of a sheet into lent bytes.
-ghost use Rattle.std.specs.Prelude.{◌≤◌, length};
+ghost use Rattle.std.specs.Prelude.{◌≡◌, ◌+◌, ◌<◌, ◌≤◌, length, MatchResult};
 ghost use Rattle.std.specs.Fmt.{signed_decimal};
+ghost use Rattle.plans.specs.declared.refusal.Refusal.TheVariants.{ShortSheet};
 ghost use Rattle.sheets.specs.Sheets.{Writes, sheet_line, SheetLaws, SheetExamples};
 
-use crate::line::{Line, MOST_LINE};
-use itoa::Buffer;
+use crate::line::Line;
 use plans::Refusal;
 use protocol::Answer;
+
+// The longest line is `dropped 65535 65535 255 run 255` with its end.
+pub const MOST_LINE: usize = 32;
 
 // The longest number is -2147483648.
 pub const MOST_NUMBER: usize = 11;
 
-// Writes a text from `at` on, where there is room for `most` bytes. The answer, here and below, is the place behind it.
-fn write_text(sheet: &mut [u8], at: usize, text: &[u8], most: usize) -> Result<usize, Refusal>
-    requires { length text.now ≤ most }
-    ensures { Writes most sheet.old at text.now sheet.new result }
+// There is room for `most` bytes from `at` on, or the sheet is short.
+fn room(sheet: &[u8], at: usize, most: usize) -> Result<(), Refusal>
+    ensures { MatchResult result (λ fits. at + most ≤ length sheet.now) (λ why. (why ≡ ShortSheet) × (length sheet.now < at + most)) }
 {
     let len = sheet.len();
     if len < most || len - most < at {
         return Err(Refusal::ShortSheet);
     }
-    let end = at + text.len();
-    sheet[at..end].copy_from_slice(text);
-    Ok(end)
+    Ok(())
 }
 
-// Writes the line of an answer, and of the task that runs after it, from `at` on.
+// Writes the line of an answer, and of the task that runs after it, from `at` on. The answer, here and below, is the place behind it.
 pub fn write_line(
     sheet: &mut [u8],
     at: usize,
@@ -36,14 +36,18 @@ pub fn write_line(
     ensures law { SheetLaws }
     ensures examples { SheetExamples }
 {
-    let line = Line::of(answer, running);
-    write_text(sheet, at, line.as_bytes(), MOST_LINE)
+    room(sheet, at, MOST_LINE)?;
+    let mut line = Line { sheet, end: at };
+    line.line(answer, running);
+    Ok(line.end)
 }
 
 // Writes a number from `at` on.
 pub fn write_number(sheet: &mut [u8], at: usize, number: i32) -> Result<usize, Refusal>
     ensures { Writes 11 sheet.old at (signed_decimal number) sheet.new result }
 {
-    let mut digits = Buffer::new();
-    write_text(sheet, at, digits.format(number).as_bytes(), MOST_NUMBER)
+    room(sheet, at, MOST_NUMBER)?;
+    let mut text = Line { sheet, end: at };
+    text.number(number);
+    Ok(text.end)
 }
